@@ -18,14 +18,14 @@ class Cut(Code):
     def __init__(self, text, is_program=False):
         Code.__init__(self, text, is_program)
         self.parts, self.at, self.starts, self.ends, self.tests = [], 0, {}, {}, {}
-        self.add(len(self.entry(0, 0)), 'entry', None)
-        self.new_at = self.at
-        for name, routine in ROUTINES:
-            self.add(len(assemble(routine)), 'routine ' + name, None)
-        for f in self.tree.functions:
+        self.add(len(self.entry(0)), 'entry', None)
+        for f in self.in_order():
             self.starts[f.name] = self.at
             self.cut_function(f)
             self.ends[f.name] = self.at
+        self.new_at = self.at
+        for name, routine in ROUTINES:
+            self.add(len(assemble(routine)), 'routine ' + name, None)
 
     def add(self, count, what, place, node=None):
         if count:

@@ -35,7 +35,7 @@ jr r31'''
 DIVIDING = 'bne r21, r0, 1\nj %d\ndiv r20, r21\n%s r2\njr r31'
 ROUTINES = (('new', NEW), ('multiply', 'mult r20, r21\nmflo r2\njr r31'), ('divide', DIVIDING % (EXITS // 4 + FAULTS['zero'], 'mflo')),
             ('remainder', DIVIDING % (EXITS // 4 + FAULTS['zero'], 'mfhi')))
-BEFORE = [word for _, text in ROUTINES for word in assemble(text)]
+BEHIND = [word for _, text in ROUTINES for word in assemble(text)]
 
 
 # ---- instructions
@@ -386,16 +386,16 @@ class Code:
         self.is_calling = bool(kinds & {'call', 'new'})
         if self.in_registers:
             saved = [store(RETURN, FRAME_END, 0)] if self.is_calling else []
-            return self.tested(SCRATCH) + saved + [addu(ARGUMENTS + n, 0, 0) for n in range(len(f.params), len(f.names))]
+            return self.tested(SCRATCH) + saved + [addu(ARGUMENTS + n, 0, 0) for n in range(len(f.params), len(f.names)) if is_cleared(f, n)]
         saved = self.of_frame(0).access(store, RETURN, SCRATCH) if self.is_calling else []
         given = [word for i in range(len(f.params)) for word in self.of_frame(3 + i).access(store, ARGUMENTS + i, SCRATCH)]
-        return self.tested(FRAME_END) + saved + given + self.zeros(3 + len(f.params), self.layout[1])
+        return self.tested(FRAME_END) + saved + given + self.zeros(f, len(f.params), self.layout[1])
 
-    def zeros(self, first, count):
-        """So many words of the frame become 0."""
+    def zeros(self, f, first, count):
+        """So many words of the frame become 0, from the word of a variable on; of few words those that are to be cleared."""
         if count <= CLEARED:
-            return [word for i in range(count) for word in self.of_frame(first + i).access(store, 0, SCRATCH)]
-        return self.of_frame(first).access(addiu, ANSWER, ANSWER) + [store(0, ANSWER, 0), addiu(ANSWER, ANSWER, 4), branch(False, ANSWER, FRAME_END, -3)]
+            return [word for n in range(first, first + count) if is_cleared(f, n) for word in self.of_frame(3 + n).access(store, 0, SCRATCH)]
+        return self.of_frame(3 + first).access(addiu, ANSWER, ANSWER) + [store(0, ANSWER, 0), addiu(ANSWER, ANSWER, 4), branch(False, ANSWER, FRAME_END, -3)]
 
     def frame_end(self, d, words):
         return Place([], FRAME_END, 4 * words).access(addiu, d, d)
@@ -413,29 +413,68 @@ class Code:
         return back + self.frame_end(FRAME_END, -self.layout[2]) + [RETURNS]
 
     # ---- the unit
-    def entry(self, data, first):
-        """The entry, for the addresses of the globals and of the function that it calls."""
+    def entry(self, data):
+        """The entry, for the address of the globals. It runs into the code behind it."""
         loaded = [load(FRAME_END, 0, STACK_FIRST), load(STACK_END, 0, STACK_LIMIT)]
-        return [lui(GLOBALS, data >> 16), ori(GLOBALS, GLOBALS, data)] + loaded + [call(first), jump(LEAVE)]
+        return [lui(GLOBALS, data >> 16), ori(GLOBALS, GLOBALS, data)] + loaded + [ori(RETURN, 0, LEAVE)]
+
+    def in_order(self):
+        """The functions as they stand behind the entry: in source order from the one that runs first on, and then those before it."""
+        names, functions = [f.name for f in self.tree.functions], self.tree.functions
+        first = names.index('main' if self.is_program else 'dispatch')
+        return functions[first:] + functions[:first]
 
     def primitive_numbers(self):
         return {'trap': 0} if self.is_program else NUMBERS
 
     def count(self):
         """How many words there are."""
-        return len(BEFORE) + len(self.entry(0, 0)) + sum(len(self.function(f)) for f in self.tree.functions)
+        return len(BEHIND) + len(self.entry(0)) + sum(len(self.function(f)) for f in self.tree.functions)
 
     def words(self):
         """All its words."""
         entered = {name: PRIMITIVES + 4 * number for name, number in self.primitive_numbers().items()}
-        entered[None] = START + 4 * len(self.entry(0, 0))
-        code, begin = [], entered[None] + 4 * len(BEFORE)
-        for f in self.tree.functions:
+        code, begin = [], START + 4 * len(self.entry(0))
+        for f in self.in_order():
             entered.setdefault(f.name, begin + 4 * len(code))
             code += self.function(f)
-        data = 4 * pages(begin // 4 + len(code))
-        whole = self.entry(data, entered['main' if self.is_program else 'dispatch']) + BEFORE + code
+        entered[None] = begin + 4 * len(code)
+        whole = self.entry(4 * pages(START // 4 + self.count())) + code + BEHIND
         return [word if isinstance(word, int) else call(entered[word[1]]) for word in whole]
+
+
+# ---- which locals are cleared
+def is_cleared(f, number):
+    """Whether a function begins with 0 in the word of a variable: where all locals are scalars, if it may be read before it is assigned."""
+    if not all(is_scalar(ty) for ty, _ in f.names[len(f.params):]):
+        return True
+    name = f.names[number][1]
+    return live_before(f.body, name, name in named(f.result))
+
+
+def named(e):
+    """The names of the variables in an expression."""
+    if e.kind == 'var':
+        return {e.parts[0]}
+    parts = e.parts if e.kind == 'index' else e.parts[1:] if e.kind in ('un', 'bin') else e.parts[:1] if e.kind in ('field', 'arrow') else ()
+    return {name for part in parts for name in named(part)}
+
+
+def live_before(statements, name, live):
+    """Whether a variable may be read in statements, or behind them if it is live there, before it is assigned."""
+    for s in reversed(statements):
+        live = live_in(s, name, live)
+    return live
+
+
+def live_in(s, name, live):
+    if s.kind in ('assign', 'call', 'new'):
+        place, read = s.parts[0], {'assign': s.parts[1:2], 'call': s.parts[2] if s.kind == 'call' else (), 'new': ()}[s.kind]
+        kept = live and not (place.kind == 'var' and place.parts[0] == name)
+        return kept or any(name in named(e) for e in read) or place.kind != 'var' and name in named(place)
+    test, yes, no = s.parts
+    behind = live or live_before(yes, name, False) if s.kind == 'while' else live_before(yes, name, live) or live_before(no, name, live)
+    return name in named(test) or behind
 
 
 # ---- the image of a program (docs/PROGRAMS.md)

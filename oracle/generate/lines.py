@@ -15,13 +15,13 @@ from oracle.generate.writing import (HEAD, K1, PARAMS, RESET, STEPS, TURNS, Writ
                                      until)
 
 # ---- measured: the step that begins a turn, or the number of steps after which the machine is past its turns
-ONE_LEFT = 135         # one user: the system is first left for user mode
-ONE_BEGINS = 2975      # one user: turn 1 begins where no line is raised, after the page fault of its first fetch
-CALLED_LEFT = 136      # the same of the user whose lines are counted, with line 1 raised at step 1
-CALLED_BACK = 357      # and user mode is back after turn 1
-PRODUCTS_LEFT = 142    # the user of products and quotients
-PRODUCTS_BEGINS = 2982 # and its turn 1
-MESSAGES_STEPS = 9549  # messages: the whole run
+ONE_LEFT = 134         # one user: the system is first left for user mode
+ONE_BEGINS = 2974      # one user: turn 1 begins where no line is raised, after the page fault of its first fetch
+CALLED_LEFT = 134      # the same of the user whose lines are counted, with line 1 raised at step 1
+CALLED_BACK = 353      # and user mode is back after turn 1
+PRODUCTS_LEFT = 141    # the user of products and quotients
+PRODUCTS_BEGINS = 2981 # and its turn 1
+MESSAGES_STEPS = 9531  # messages: the whole run
 
 TAKEN = RESET + ' 1\nturn 1 cause 1 data 00000008 user 1 next 0\nhalted\nuser 1 pages 1 pc 00000000\nmem 00000000 0000000c\n'
 LATE = TAKEN.replace('cause 1 data 00000008', 'cause 6 data 0000000c').replace('pc 00000000', 'pc 00000004')

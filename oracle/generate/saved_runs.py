@@ -39,8 +39,10 @@ LINKED = 16384 + code_words(KERNEL)
 TABLES = next_page(next_page(next_page(next_page(LINKED) + GLOBALS) + HEAP) + STACK)
 COUNTS = next_page(TABLES + USERS * PAGES)
 MEMORY = next_page(COUNTS + 8 * (FRAMES + 1)) // 1024 + 1 + FRAMES
-# where the handler begins, the variables, the entries, the control blocks, the kernel's code, and all that is not linked
-PARTS = 0, 1024, 2048, BLOCKS, 16384, LINKED, 1024 * MEMORY
+# The parts of memory, each with where it ends and which of its words are set: each one, where the machine or the layer goes by it, as the handler, the
+# variables, the routines, the users' control blocks, the kernel's code, the page tables and the frame table; else each so many-th, as of the zeros behind
+PARTS = ((HANDLER, 1), (1024, 7), (2048, 1), (2048 + ROUTINES, 1), (BLOCKS, 7), (BLOCKS + 64 * USERS, 1), (16384, 7), (LINKED, 1),
+         (TABLES, 3), (TABLES + USERS * PAGES, 1), (COUNTS, 7), (COUNTS + 8 * (FRAMES + 1), 1), (1024 * MEMORY, 3))
 # the file: the words before memory, of which none is of a log, as nothing is put to the console
 HEAD, BEFORE = 56, 56 + 1024
 BYTES = 4 * (BEFORE + 1024 * MEMORY)
@@ -91,8 +93,8 @@ def memory_refusal(changes):
     return 105 if any(place in sizes and value > PAGES for place, value in changes.items()) else None
 
 
-def memory_words(first, count):
-    for place in range(first, first + count):
+def memory_words(first, count, stride):
+    for place in range(first, first + count, stride):
         # a user's size is 1 page. No instruction is 0, 1 or 2^32 - 1, so each of the four values is another word there. Of others no value is asked for
         for value in forged(0 if is_filled(place) else 1):
             yield memory_refusal({place: value})
@@ -147,8 +149,8 @@ class SavedRuns:
         counts = ''.join(', %d refused %d' % (numbers.count(n), n) + places * (n == 104) for n in range(100, 109) if n in numbers)
         self.told.append('%d files%s, the others 0, 3 or 4' % (len(refusals), counts))
 
-    def forge_memory(self, first, count):
-        self.tally('words %d %d 1' % (BEFORE + first, count), memory_words(first, count))
+    def forge_memory(self, first, count, stride):
+        self.tally('words %d %d %d' % (BEFORE + first, count, stride), memory_words(first, count, stride))
 
     def forge_random(self, first, count, files, seed):
         self.tally('random %d %d %d %d' % (BEFORE + first, count, files, seed), random_words(first, count, files, seed))
@@ -191,12 +193,14 @@ class SavedRuns:
             self.run('resume img s %d %d forged' % (WANTED, STEPS), 'refused 104 %d %d 0\n' % answer, 2)
 
     def forged_files(self):
-        """Forged files: each word of the file, the buffer's behind the head's, and then those of memory; each length of the head; and words at random."""
+        """Forged files: words of the file, the buffer's behind the head's, and then those of memory; each length of the head; and words at random."""
         self.tally('words 0 %d 1' % HEAD, head_words())
         self.tally('cuts %d' % (4 * HEAD), [101] * (4 * HEAD))
         self.tally('words %d 1024 1' % HEAD, [None] * (4 * 1024))
-        for first, end in zip(PARTS, PARTS[1:]):
-            self.forge_memory(first, end - first)
+        first = 0
+        for end, stride in PARTS:
+            self.forge_memory(first, end - first, stride)
+            first = end
         self.forge_random(0, LINKED, 400, 4)
         self.forge_random(BLOCKS, 64 * USERS, 150, 1)
         self.forge_random(TABLES, USERS * PAGES, 50, 2)

@@ -112,8 +112,8 @@ class Code(unittest.TestCase):
         self.assertEqual((made.at, made.unfit(words), code.code_words(example)), (len(words), None, len(words)))
         self.assertEqual(emit.Code(example).words(), words)
         self.assertEqual([(part.first, part.what) for part in made.parts], [
-            (0, 'entry'), (6, 'routine new'), (24, 'routine multiply'), (27, 'routine divide'), (32, 'routine remainder'), (37, 'head of dispatch'), (41, 'assign'),
-            (44, 'return'), (45, 'end of dispatch')])
+            (0, 'entry'), (5, 'head of dispatch'), (9, 'assign'), (12, 'return'), (13, 'end of dispatch'),
+            (14, 'routine new'), (32, 'routine multiply'), (35, 'routine divide'), (40, 'routine remainder')])
 
     def test_other_words_do_not_fit(self):
         example = 'int x; int f() { return 1; } int dispatch(int a, int b, int c) { while (x < 9) { x = f(); } return 0; }'
@@ -132,7 +132,7 @@ class Code(unittest.TestCase):
         # the program makes as many words of it; an element of more words than 1,024 is found by a product, two to the eleventh ones too
         found = KERNEL.replace('n = n + 1;', 'n = a[n][7];')
         self.assertEqual(code.code_words('int[2048][3] a; ' + found), code.code_words('int[2047][3] a; ' + found))
-        self.assertEqual((code.code_words(FAR), cut.Cut(FAR).at), (408, 408))
+        self.assertEqual((code.code_words(FAR), cut.Cut(FAR).at), (407, 407))
 
     def test_a_program_may_have_a_dispatch_of_its_own(self):
         made = cut.Cut('int dispatch() { return 1; } int main() { int x; x = dispatch(); x = trap(x); return x; }', True)

@@ -221,7 +221,7 @@ use Rattle.run_scripts.specs.declared.exit_status.Status.{{Status}}
 use Rattle.run_scripts.specs.declared.exit_status.Status.TheVariants.{{KernelFault, Memory}}
 use Rattle.run_scripts.specs.declared.session.Session.{{Session}}
 use Rattle.cvm_outside.specs.Outside.{{Outside}}
-use Rattle.run_scripts.specs.Boot.{{booted, around, first_state, steps_before, IsHonest}}
+use Rattle.run_scripts.specs.Boot.{{booted, environment_of, start_state, steps_before, IsHonest}}
 use Rattle.run_scripts.specs.CommandEnds.{{Headlines}}
 use Rattle.kernel_boots.specs.Systems.{{AsksSystem, SystemShown, HasHalted}}
 use Rattle.{name}.specs.Text.{{text as kernel_text}}
@@ -248,7 +248,7 @@ SystemBoots = {params_of}{premises}(words : List (List ℕ)) (status : Status) (
     → (session : Session) (s : ImageSystem) (rows : Rows) (before : List (List ℕ)) → (h : IsHonest words session s rows before old new)
     → status ≢ Memory → session.view ≡ Boot → AsksSystem kernel_text ({users}) h.asked
     → (text : List ℕ) × (new.sink.text ≡ append_known old.sink.text text)
-    × Shown (around rows old) (booted s rows) (first_state session s rows before) (steps_before session.start (booted s rows)) (length rows.lines) session.turns session.steps status text
+    × Shown (environment_of rows old) (booted s rows) (start_state session s rows before) (steps_before session.start (booted s rows)) (length rows.lines) session.turns session.steps status text
 """
 
 BOOTS = """-- Each boot of the system shows what was proved of its run. Each `?` says how long the system runs.
@@ -259,7 +259,7 @@ use Rattle.cvm_model.specs.Invariant.{{{fit}, RunsAreLawful}}
 use Rattle.run_bounds.specs.Lines.{{LinesTakenAreFew, RaisedLinesAreFew}}
 use Rattle.run_bounds.specs.Steps.{{BoundsAreSmall}}
 use Rattle.kernel_linker.specs.Sources.{{AcceptedAreOfImages}}
-use Rattle.run_scripts.specs.Boot.{{booted, around, first_state, steps_before}}
+use Rattle.run_scripts.specs.Boot.{{booted, environment_of, start_state, steps_before}}
 use Rattle.kernel_theorems.specs.Text.{{Means{means_program}}}
 use Rattle.kernel_boots.specs.Systems.{{SystemEndsWithin}}
 use Rattle.kernel_boots.proofs.Systems.{{asks_source, asked_users, systems_boot}}
@@ -315,14 +315,14 @@ returns c = system_boots c.accepted_systems_are_of_their_images.ensures c.runs_a
 PROGRAM_TEXTS = """-- The programs' texts are those of their trees: each field computes.
 use Rattle.std.proofs.Common.{{refl, arith}}
 use Rattle.c0_tokens.specs.Lexis.{{mark_cut, word_lexeme}}
-use Rattle.c0_tokens.specs.Spelling.{{words, marks}}
+use Rattle.c0_tokens.specs.Spelling.{{reserved_words, marks}}
 use Rattle.c0_tree.specs.declared.primitive.Program.TheVariants.{{User}}
 use Rattle.kernel_theorems.specs.Text.{{IsTextAs}}
 {uses}
 {lemmas}"""
 
 PROGRAM_TEXT = """pub is_text_{number} : IsTextAs User {steps} text_{number} program_tree_{number}
-unfolding mark_cut word_lexeme words marks
+unfolding mark_cut word_lexeme reserved_words marks
 is_text_{number} = record {{ short = omega arith; reads = refl; faultless = refl; is = refl }}
 """
 

@@ -111,10 +111,10 @@ class Believed(unittest.TestCase):
         self.assertTrue(set(headline) < set(came) < set(everything))
         # how a run ends is no word of the first, and is counted of the others
         ends = specs.file('run_scripts.specs.Ends')
-        for name in ('Ends', 'Does', 'PlanAsks'):
+        for name in ('Ends', 'WasDone', 'PlanAsks'):
             self.assertNotIn((ends.path, ends.own[name]), headline)
             self.assertIn((ends.path, ends.own[name]), boots)
-        self.assertIn((ends.path, ends.own['seen']), headline)
+        self.assertIn((ends.path, ends.own['as_outside']), headline)
         lines = sum(self.believed.lines_of(specs.files[path].blocks[block]) for path, block in everything)
         self.assertIn('| everything | %s |' % format(lines, ','), self.believed.of_totals(specs))
 

@@ -39,7 +39,7 @@ class Proved(unittest.TestCase):
                 self.assertEqual(assembler.words_of(stored('examples', example, file)), words)
         for example in ('compiled_sums', 'answering'):
             for file, limit in (('user1.c0', '10'), ('user2.c0', '20')):
-                lines = self.codes(('program_systems', 'specs', 'AdderTexts.antt'), 'text_of limit')
+                lines = self.codes(('program_systems', 'specs', 'AdderTexts.antt'), 'adder_text limit')
                 first, last = lines[2], lines[3]
                 self.assertEqual('\n'.join(lines[:2] + [first + limit + last] + lines[4:]) + '\n', stored('examples', example, file))
 

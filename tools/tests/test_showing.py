@@ -175,12 +175,12 @@ class Listings(unittest.TestCase):
         words = [int(row.split()[1], 16) for row in code_case(source)]
         made_listing = listing.Listing(rows.append)
         made_listing.code('kernel.c0', source, words, 'the code of a kernel')
-        self.assertEqual(([' '.join(row.split()) for row in rows[-9:]], made_listing.unfit), ([
-            '000100a0 0800080d j 2061 -> fault StackOut', 'kernel.c0:2 x = x + 1;', '000100a4 8f880000 lw r8, 0(r28)', '000100a8 25080001 addiu r8, r8, 1',
-            '000100ac af880000 sw r8, 0(r28)', 'kernel.c0:2 int dispatch(int cause, int data, int user) { x = x + 1; return 0; } (return)',
-            '000100b0 34020000 ori r2, r0, 0', 'kernel.c0:2 int dispatch(int cause, int data, int user) { x = x + 1; return 0; } (end of dispatch)',
-            '000100b4 03e00008 jr r31'], []))
-        self.assertIn('0c004025  jal 16421                   -> dispatch', rows[6])
+        self.assertEqual(([' '.join(row.split()) for row in rows[11:20]], made_listing.unfit), ([
+            '00010020 0800080d j 2061 -> fault StackOut', 'kernel.c0:2 x = x + 1;', '00010024 8f880000 lw r8, 0(r28)', '00010028 25080001 addiu r8, r8, 1',
+            '0001002c af880000 sw r8, 0(r28)', 'kernel.c0:2 int dispatch(int cause, int data, int user) { x = x + 1; return 0; } (return)',
+            '00010030 34020000 ori r2, r0, 0', 'kernel.c0:2 int dispatch(int cause, int data, int user) { x = x + 1; return 0; } (end of dispatch)',
+            '00010034 03e00008 jr r31'], []))
+        self.assertIn('341f2038  ori r31, r0, 8248', rows[6])
 
     def test_words_that_do_not_fit_are_told(self):
         rows, source = [], pages.page('COMPILER.md').split('```')[1].strip('\n')

@@ -13,7 +13,7 @@ use Rattle.run_bounds.specs.Steps.{BoundsAreSmall}
 use Rattle.kernel_linker.specs.Sources.{AcceptedAreOfImages}
 use Rattle.run_scripts.specs.declared.exit_status.Status.{Status}
 use Rattle.run_scripts.specs.declared.exit_status.Status.TheVariants.{Done}
-use Rattle.run_scripts.specs.Boot.{booted, around, first_state, steps_before}
+use Rattle.run_scripts.specs.Boot.{booted, environment_of, start_state, steps_before}
 use Rattle.kernel_theorems.specs.Text.{Means}
 use Rattle.kernel_theorems.specs.Lines.{by_lines}
 use Rattle.kernel_theorems.proofs.Tests.{by_same}
@@ -23,7 +23,7 @@ use Rattle.kernel_boots.proofs.Systems.{asks_source, asked_users, stopped, syste
 use Rattle.alternating.specs.Tree.{kernel_tree}
 use Rattle.alternating.specs.Text.{text as kernel_text}
 use Rattle.alternating.specs.Users.{user_1, user_2}
-use Rattle.alternating.specs.Property.{data_of, numbers, half, leg, steps_up_to, machines, status_behind, Alternating, RunsAlternating}
+use Rattle.alternating.specs.Property.{data_of, logged_numbers, half, leg, steps_up_to, machines, status_behind, Alternating, RunsAlternating}
 use Rattle.alternating.specs.Boots.{report_lines, AlternatingShown, AlternatingBoots}
 use Rattle.alternating.proofs.Property.{still_few, always}
 use Rattle.alternating.proofs.Reports.{reported}
@@ -79,7 +79,7 @@ module _ (x : Environment) (y : System) (r : RunsAlternating y) (s : State) (lat
         halted.status_is,
         omega (arith, rows, long, calls, few),
         halted.text_is ∙ ap (λ (t : List ℕ). rows_text h.stands.state.rows ++ t) (reported y.boot.meaning.names h.stands.state.core (ap (λ (m : KernelMeaning). m.names) r.meaning_is)
-            (end.kept.0.data_is ∙ ap data_of six) (ap (λ (o : Console). o.log) end.kept.0.console_is ∙ ap numbers six)
+            (end.kept.0.data_is ∙ ap data_of six) (ap (λ (o : Console). o.log) end.kept.0.console_is ∙ ap logged_numbers six)
             (end.kept.0.users_are ∙ ap₂ (machines (first_flat user_1) (first_flat user_2)) six none)),
       )
 
@@ -102,4 +102,4 @@ alternating_boots images laws counts small takes rise means words status old new
     let y = booted s rows in
     let read = asked_read images kernel_text words old.shelf.file session s rows h.asked asks in
     let r : RunsAlternating y = record { meaning_is = means s.unit s.params read.unit; users_are = users; room = (let stack = read.room.stack in omega (arith, stack)) } in
-    (text, printed, shown (around rows old) y r (first_state session s rows before) (steps_before session.start y) (length rows.lines) session.turns session.steps status text shows)
+    (text, printed, shown (environment_of rows old) y r (start_state session s rows before) (steps_before session.start y) (length rows.lines) session.turns session.steps status text shows)

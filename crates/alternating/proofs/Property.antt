@@ -22,7 +22,7 @@ use Rattle.kernel_theorems.proofs.Tests.{by_same}
 use Rattle.kernel_theorems.proofs.OneKernel.{DoesWithin, keeps_within}
 use Rattle.alternating.specs.Tree.{kernel_tree}
 use Rattle.alternating.specs.Users.{user_1, user_2}
-use Rattle.alternating.specs.Property.{data_of, half, turn_of, steps_of_1, steps_of_2, leg, steps_up_to, behind, machines, status_behind, console_of, Alternates, Alternating, RunsAlternating, UsersAlternate}
+use Rattle.alternating.specs.Property.{data_of, half, whose_turn, steps_of_1, steps_of_2, leg, steps_up_to, behind_calls, machines, status_behind, console_behind, Alternates, Alternating, RunsAlternating, UsersAlternate}
 use Rattle.alternating.proofs.Users.{brings_odd, brings_even}
 
 -- a state that is running is behind five calls at most
@@ -31,7 +31,7 @@ still_few calls few on = by_same calls 6
     (λ e six. absurd (let z : Halted ≡ Running = sym (ap (λ b. if b then Halted else Running) e) ∙ on in cc))
     (λ e other. omega (arith, few, other))
 
-module _ (y : System) (r : RunsAlternating y) (f g : Flat) (odd : (c : ℕ) → c ≤ 2 → CallsAfter (behind f c) (leg c) (suc (2 * c))) (even : (c : ℕ) → c ≤ 2 → CallsAfter (behind g c) (leg c) (suc (suc (2 * c))))
+module _ (y : System) (r : RunsAlternating y) (f g : Flat) (odd : (c : ℕ) → c ≤ 2 → CallsAfter (behind_calls f c) (leg c) (suc (2 * c))) (even : (c : ℕ) → c ≤ 2 → CallsAfter (behind_calls g c) (leg c) (suc (suc (2 * c))))
     (users_are : map first_flat y.boot.users ≡ f ∷ g ∷ []) where
   abbrev I : SystemProperty
   I = Alternates y.input f g
@@ -52,17 +52,17 @@ module _ (y : System) (r : RunsAlternating y) (f g : Flat) (odd : (c : ℕ) → 
   starts (suc (suc calls)) = starts calls
 
   abbrev caller : ℕ → Flat
-  caller calls = behind (starts calls) (half calls)
+  caller calls = behind_calls (starts calls) (half calls)
 
   -- A TURN: who has it goes on to its next call, and brings the next number
   record Turn (calls : ℕ) : Type 0 where
     brings : CallsAfter (caller calls) (leg (half calls)) (suc calls)
-    stands : (t : ℕ) → user_of (machines f g calls t) (turn_of calls) ≡ after t (caller calls)
-    steps : (t : ℕ) → with_user (machines f g calls t) (turn_of calls) (after (suc t) (caller calls)) ≡ machines f g calls (suc t)
-    passes : (t : ℕ) → with_user (machines f g calls t) (turn_of calls) (after (suc (leg (half calls))) (caller calls)) ≡ machines f g (suc calls) 0
-    called : user_of (machines f g (suc calls) 0) (turn_of calls) ≡ after (suc (leg (half calls))) (caller calls)
-    some : 1 ≤ turn_of calls
-    most : turn_of calls ≤ 2
+    stands : (t : ℕ) → user_of (machines f g calls t) (whose_turn calls) ≡ after t (caller calls)
+    steps : (t : ℕ) → with_user (machines f g calls t) (whose_turn calls) (after (suc t) (caller calls)) ≡ machines f g calls (suc t)
+    passes : (t : ℕ) → with_user (machines f g calls t) (whose_turn calls) (after (suc (leg (half calls))) (caller calls)) ≡ machines f g (suc calls) 0
+    called : user_of (machines f g (suc calls) 0) (whose_turn calls) ≡ after (suc (leg (half calls))) (caller calls)
+    some : 1 ≤ whose_turn calls
+    most : whose_turn calls ≤ 2
 
   turn : (calls : ℕ) → calls ≤ 5 → Turn calls
   turn zero few = record { brings = odd 0 (omega arith); stands = λ t. refl; steps = λ t. refl; passes = λ t. refl; called = refl; some = omega arith; most = omega arith }
@@ -76,7 +76,7 @@ module _ (y : System) (r : RunsAlternating y) (f g : Flat) (odd : (c : ℕ) → 
   -- BEHIND A DISPATCH
   made : (k : ℕ) (past : List Dispatch) (d : Dispatch) (calls steps : ℕ) (c : Core) → calls ≤ 6 → steps ≤ leg (half calls) → (calls ≡ 6 → steps ≡ 0)
       → suc k ≡ 1 + steps_up_to calls + steps + calls + (lines_taken past + (if d.cause == 1 then 1 else 0)) → suc (length past) ≡ 1 + calls + (lines_taken past + (if d.cause == 1 then 1 else 0))
-      → c.c0 ≡ data_of calls → c.users ≡ machines f g calls steps → c.console ≡ console_of y.input calls → (calls ≤ 5 → c.current ≡ turn_of calls) → status_of d.next ≡ status_behind calls
+      → c.c0 ≡ data_of calls → c.users ≡ machines f g calls steps → c.console ≡ console_behind y.input calls → (calls ≤ 5 → c.current ≡ whose_turn calls) → status_of d.next ≡ status_behind calls
       → I (suc k) (past ++ d ∷ []) c
   made k past d calls steps c few before at_end turns long data_is users console turn status =
       let l = lines_join past d in
@@ -122,11 +122,11 @@ module _ (y : System) (r : RunsAlternating y) (f g : Flat) (odd : (c : ℕ) → 
   -- A CALL behind so many, at a state that is written out, in which one of the users has called: what it brings is logged, and the other one is next, or nobody
   -- behind the sixth
   abbrev at_call : (calls : ℕ) → List Flat → ℕ → Core
-  at_call calls users u = core_of_parts (data_of calls) users (console_of y.input calls) u
+  at_call calls users u = core_of_parts (data_of calls) users (console_behind y.input calls) u
 
   module _ (k edata : ℕ) (past : List Dispatch) (calls : ℕ) (few : calls ≤ 5) (turns : k ≡ 1 + steps_up_to (suc calls) + calls + lines_taken past) (long : length past ≡ 1 + calls + lines_taken past) (f' g' : Flat)
       (users : f' ∷ g' ∷ [] ≡ machines f g (suc calls) 0) where
-    goes_on : (d : Dispatch) (c : Core) → d.cause ≡ 6 → c.c0 ≡ data_of (suc calls) → c.users ≡ f' ∷ g' ∷ [] → c.console ≡ console_of y.input (suc calls) → (suc calls ≤ 5 → c.current ≡ turn_of (suc calls))
+    goes_on : (d : Dispatch) (c : Core) → d.cause ≡ 6 → c.c0 ≡ data_of (suc calls) → c.users ≡ f' ∷ g' ∷ [] → c.console ≡ console_behind y.input (suc calls) → (suc calls ≤ 5 → c.current ≡ whose_turn (suc calls))
         → status_of d.next ≡ status_behind (suc calls) → I (suc k) (past ++ d ∷ []) c
     goes_on d c six data_is users_are console turn status =
         let no_line : ◌≡◌ {A = ℕ} (if d.cause == 1 then 1 else 0) 0 = ap (λ (n : ℕ). if n == 1 then 1 else 0) six in
@@ -136,7 +136,7 @@ module _ (y : System) (r : RunsAlternating y) (f g : Flat) (odd : (c : ℕ) → 
   two_there u few = let many = many_users in omega (arith, few, many)
 
   call : (k edata : ℕ) (past : List Dispatch) (calls : ℕ) (few : calls ≤ 5) (turns : k ≡ 1 + steps_up_to (suc calls) + calls + lines_taken past) (long : length past ≡ 1 + calls + lines_taken past) (f' g' : Flat)
-      → f' ∷ g' ∷ [] ≡ machines f g (suc calls) 0 → signed (slice_index (user_of (f' ∷ g' ∷ []) (turn_of calls)).cpu.regs 4) ≡ pos (suc calls) → Does k 6 edata past (at_call calls (f' ∷ g' ∷ []) (turn_of calls)) calls
+      → f' ∷ g' ∷ [] ≡ machines f g (suc calls) 0 → signed (slice_index (user_of (f' ∷ g' ∷ []) (whose_turn calls)).cpu.regs 4) ≡ pos (suc calls) → Does k 6 edata past (at_call calls (f' ∷ g' ∷ []) (whose_turn calls)) calls
   unfolding int_wrap
   call k edata past zero few turns long f' g' users is =
       rw (has_room, is) (omega arith, all_user y I k 6 edata past _ _ 2 refl (omega arith) (two_there 2 (omega arith)) (goes_on k edata past 0 few turns long f' g' users _ _ refl refl refl refl (λ few. refl) refl))
@@ -153,9 +153,9 @@ module _ (y : System) (r : RunsAlternating y) (f g : Flat) (odd : (c : ℕ) → 
   call k edata past (suc (suc (suc (suc (suc (suc calls)))))) few turns long f' g' users is = absurd (omega (arith, few))
 
   called : (k edata : ℕ) (past : List Dispatch) (calls : ℕ) → calls ≤ 5 → Turn calls → k ≡ 1 + steps_up_to (suc calls) + calls + lines_taken past
-      → length past ≡ 1 + calls + lines_taken past → Does k 6 edata past (at_call calls (machines f g (suc calls) 0) (turn_of calls)) calls
+      → length past ≡ 1 + calls + lines_taken past → Does k 6 edata past (at_call calls (machines f g (suc calls) 0) (whose_turn calls)) calls
   called k edata past calls few w turns long =
-      call k edata past calls few turns long (after (steps_of_1 (suc calls) 0) (behind f (half (suc (suc calls))))) (after (steps_of_2 (suc calls) 0) (behind g (half (suc calls)))) refl
+      call k edata past calls few turns long (after (steps_of_1 (suc calls) 0) (behind_calls f (half (suc (suc calls))))) (after (steps_of_2 (suc calls) 0) (behind_calls g (half (suc calls)))) refl
       (ap (λ (m : Flat). signed (slice_index m.cpu.regs 4)) w.called ∙ w.brings.value_is)
 
   -- A TRAP is the call of the user whose turn it is
@@ -164,12 +164,12 @@ module _ (y : System) (r : RunsAlternating y) (f g : Flat) (odd : (c : ℕ) → 
   trapped k cause edata past before at came on touch h =
       let few : h.calls ≤ 5 = still_few h.calls h.few (sym h.status_is ∙ on) in
       let w : Turn h.calls = turn h.calls few in
-      let trap = known_trap before at (machines f g h.calls h.steps) (turn_of h.calls) (caller h.calls) (leg (half h.calls)) causes.Syscall w.brings.calls w.brings.calls.edata h.steps cause edata
-      (data_of h.calls) (console_of y.input h.calls) refl h.before_call h.users_are (h.turn_is few) (w.stands h.steps) h.data_is h.console_is came in
+      let trap = known_trap before at (machines f g h.calls h.steps) (whose_turn h.calls) (caller h.calls) (leg (half h.calls)) causes.Syscall w.brings.calls w.brings.calls.edata h.steps cause edata
+      (data_of h.calls) (console_behind y.input h.calls) refl h.before_call h.users_are (h.turn_is few) (w.stands h.steps) h.data_is h.console_is came in
       let turns = h.turns_are in
       let last = trap.last in
-      arrives trap (subst (λ us. KeepsAll y 300 J k 6 w.brings.calls.edata past (core_of_parts (data_of h.calls) us (console_of y.input h.calls) (turn_of h.calls))) (sym (w.passes h.steps))
-      (keeps_within y kernel_tree r.meaning_is 300 0 I k 6 w.brings.calls.edata past (core_of_parts (data_of h.calls) (machines f g (suc h.calls) 0) (console_of y.input h.calls) (turn_of h.calls)) (data_of h.calls) touch refl
+      arrives trap (subst (λ us. KeepsAll y 300 J k 6 w.brings.calls.edata past (core_of_parts (data_of h.calls) us (console_behind y.input h.calls) (whose_turn h.calls))) (sym (w.passes h.steps))
+      (keeps_within y kernel_tree r.meaning_is 300 0 I k 6 w.brings.calls.edata past (core_of_parts (data_of h.calls) (machines f g (suc h.calls) 0) (console_behind y.input h.calls) (whose_turn h.calls)) (data_of h.calls) touch refl
       (called k w.brings.calls.edata past h.calls few w (omega (arith, turns, last)) h.length_is)))
 
   -- A STEP of that user
@@ -177,7 +177,7 @@ module _ (y : System) (r : RunsAlternating y) (f g : Flat) (odd : (c : ℕ) → 
   stepped k past c next e on h =
       let few : h.calls ≤ 5 = still_few h.calls h.few (sym h.status_is ∙ on) in
       let w : Turn h.calls = turn h.calls few in
-      let step = known_step c (machines f g h.calls h.steps) (turn_of h.calls) (caller h.calls) (leg (half h.calls)) causes.Syscall w.brings.calls h.steps h.before_call h.users_are (h.turn_is few)
+      let step = known_step c (machines f g h.calls h.steps) (whose_turn h.calls) (caller h.calls) (leg (half h.calls)) causes.Syscall w.brings.calls h.steps h.before_call h.users_are (h.turn_is few)
       (w.stands h.steps) next e in
       let turns = h.turns_are in
       let before = step.before in

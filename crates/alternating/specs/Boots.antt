@@ -14,7 +14,7 @@ use Rattle.run_scripts.specs.declared.exit_status.Status.{Status}
 use Rattle.run_scripts.specs.declared.exit_status.Status.TheVariants.{Done, KernelFault, Memory}
 use Rattle.run_scripts.specs.declared.session.Session.{Session}
 use Rattle.cvm_outside.specs.Outside.{Outside}
-use Rattle.run_scripts.specs.Boot.{booted, around, first_state, steps_before, IsHonest}
+use Rattle.run_scripts.specs.Boot.{booted, environment_of, start_state, steps_before, IsHonest}
 use Rattle.run_scripts.specs.CommandEnds.{Headlines}
 use Rattle.kernel_theorems.specs.Lines.{by_lines}
 use Rattle.kernel_boots.specs.Systems.{AsksSystem, SystemShown}
@@ -60,4 +60,4 @@ AlternatingBoots = (words : List (List ℕ)) (status : Status) (old new : Outsid
     → (session : Session) (s : ImageSystem) (rows : Rows) (before : List (List ℕ)) → (h : IsHonest words session s rows before old new)
     → status ≢ Memory → session.view ≡ Boot → AsksSystem kernel_text (user_1 ∷ user_2 ∷ []) h.asked
     → (text : List ℕ) × (new.sink.text ≡ append_known old.sink.text text)
-    × AlternatingShown (around rows old) (booted s rows) (first_state session s rows before) (steps_before session.start (booted s rows)) (length rows.lines) session.turns session.steps status text
+    × AlternatingShown (environment_of rows old) (booted s rows) (start_state session s rows before) (steps_before session.start (booted s rows)) (length rows.lines) session.turns session.steps status text

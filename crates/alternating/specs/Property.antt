@@ -19,9 +19,9 @@ abbrev pub data_of : ℕ → C0State
 data_of calls = record { global_values = group (part (int (pos calls)) empty); heap_values = group empty; heap_words = 0; frames = [] }
 
 -- the numbers that were logged by so many calls: from 1 on
-abbrev pub numbers : ℕ → List ℕ
-numbers zero = []
-numbers (suc calls) = numbers calls ++ suc calls ∷ []
+abbrev pub logged_numbers : ℕ → List ℕ
+logged_numbers zero = []
+logged_numbers (suc calls) = logged_numbers calls ++ suc calls ∷ []
 
 -- half of a number: of so many calls user 2 has made half, and user 1 half of one more
 abbrev pub half : ℕ → ℕ
@@ -30,10 +30,10 @@ half (suc zero) = 0
 half (suc (suc calls)) = suc (half calls)
 
 -- whose turn it is behind so many calls
-abbrev pub turn_of : ℕ → ℕ
-turn_of zero = 1
-turn_of (suc zero) = 2
-turn_of (suc (suc calls)) = turn_of calls
+abbrev pub whose_turn : ℕ → ℕ
+whose_turn zero = 1
+whose_turn (suc zero) = 2
+whose_turn (suc (suc calls)) = whose_turn calls
 
 -- of these steps of the user whose turn it is, those of user 1, and of user 2
 abbrev pub steps_of_1 : (calls steps : ℕ) → ℕ
@@ -57,21 +57,21 @@ steps_up_to zero = 0
 steps_up_to (suc calls) = steps_up_to calls + leg (half calls)
 
 -- a user's machine behind so many of its calls
-abbrev pub behind : Flat → ℕ → Flat
-behind f zero = f
-behind f (suc calls) = after (suc (leg calls)) (behind f calls)
+abbrev pub behind_calls : Flat → ℕ → Flat
+behind_calls f zero = f
+behind_calls f (suc calls) = after (suc (leg calls)) (behind_calls f calls)
 
 -- both machines behind so many calls, and so many untrapped steps of the user whose turn it is
 abbrev pub machines : Flat → Flat → (calls steps : ℕ) → List Flat
-machines f g calls t = after (steps_of_1 calls t) (behind f (half (suc calls))) ∷ after (steps_of_2 calls t) (behind g (half calls)) ∷ []
+machines f g calls t = after (steps_of_1 calls t) (behind_calls f (half (suc calls))) ∷ after (steps_of_2 calls t) (behind_calls g (half calls)) ∷ []
 
 -- the sixth call ends the run
 abbrev pub status_behind : ℕ → Status
 status_behind calls = if calls == 6 then Halted else Running
 
 -- the console behind so many calls
-abbrev pub console_of : (input : List ℕ) → (calls : ℕ) → Console
-console_of input calls = record { log = numbers calls; input = input }
+abbrev pub console_behind : (input : List ℕ) → (calls : ℕ) → Console
+console_behind input calls = record { log = logged_numbers calls; input = input }
 
 -- WHAT IS SO after k turns, of users with these machines at the start: the log has the numbers from 1 on, one for each call; each machine is after its own steps,
 -- whatever lines came; each turn was the first, a step, a call or lines that were taken; and the system has halted exactly behind the sixth call
@@ -85,8 +85,8 @@ pub record Alternates (input : List ℕ) (f g : Flat) (k : ℕ) (past : List Dis
   pub length_is : length past ≡ 1 + calls + lines_taken past
   pub data_is : c.c0 ≡ data_of calls
   pub users_are : c.users ≡ machines f g calls steps
-  pub console_is : c.console ≡ console_of input calls
-  pub turn_is : calls ≤ 5 → c.current ≡ turn_of calls
+  pub console_is : c.console ≡ console_behind input calls
+  pub turn_is : calls ≤ 5 → c.current ≡ whose_turn calls
   pub status_is : status_after past ≡ status_behind calls
 
 -- and no dispatch touches a page of a user

@@ -16,7 +16,7 @@ use Rattle.run_bounds.specs.Steps.{BoundsAreSmall}
 use Rattle.kernel_linker.specs.Sources.{AcceptedAreOfImages}
 use Rattle.run_scripts.specs.declared.exit_status.Status.{Status}
 use Rattle.run_scripts.specs.declared.exit_status.Status.TheVariants.{Done}
-use Rattle.run_scripts.specs.Boot.{booted, around, first_state, steps_before}
+use Rattle.run_scripts.specs.Boot.{booted, environment_of, start_state, steps_before}
 use Rattle.kernel_theorems.specs.Text.{Means}
 use Rattle.kernel_boots.specs.Systems.{SystemEndsWithin, HasHalted, SystemShown}
 use Rattle.kernel_boots.proofs.Boots.{asked_read}
@@ -25,7 +25,7 @@ use Rattle.answering.specs.Tree.{kernel_tree}
 use Rattle.answering.specs.Text.{text as kernel_text}
 use Rattle.kernel_theorems.specs.UserRuns.{AsksAndEnds}
 use Rattle.answering.specs.Property.{RunsAnswering, data_of, Phase, FirstAsks, FirstEnds, SecondAsks, SecondEnds, Over, traps_of, total_of, status_of_phase, most_of, gone_by, first_at, second_at, IsAnswering, Answering}
-use Rattle.answering.specs.Boots.{report_of, ended, AnswersShown, AnyUsersAnswered}
+use Rattle.answering.specs.Boots.{report_of, ended_by_trap, AnswersShown, AnyUsersAnswered}
 use Rattle.answering.proofs.Property.{invariant}
 
 abbrev runs : (one two : List ℕ) (a b c d v w : ℕ) → AsksAndEnds (first_flat one) a b v v → AsksAndEnds (first_flat two) c d w (v + w) → v + w < 2 ^ 31
@@ -91,20 +91,20 @@ module _ (y : System) (a b c d v w : ℕ) (r : RunsAnswering y a b c d v w) (f g
   data_then : at.c0 ≡ data_of (pos (v + w))
   data_then = h.data_is ∙ ap (λ p. data_of (pos (total_of v w p))) phase
 
-  users_then : at.users ≡ ended a b v f ∷ ended c d (v + w) g ∷ []
+  users_then : at.users ≡ ended_by_trap a b v f ∷ ended_by_trap c d (v + w) g ∷ []
   users_then = h.users_are ∙ ap (λ p. first_at a b v f p h.steps ∷ second_at c d (v + w) g p h.steps ∷ []) phase
 
   log_then : at.console.log ≡ []
   log_then = ap (λ (o : Console). o.log) h.console_is
 
-  report : codes "halted\n" ++ report_text y.boot.meaning.names at ≡ report_of (v + w) (ended a b v f ∷ ended c d (v + w) g ∷ [])
-  report = reported y.boot.meaning.names at (v + w) (ended a b v f ∷ ended c d (v + w) g ∷ []) names data_then log_then users_then
+  report : codes "halted\n" ++ report_text y.boot.meaning.names at ≡ report_of (v + w) (ended_by_trap a b v f ∷ ended_by_trap c d (v + w) g ∷ [])
+  report = reported y.boot.meaning.names at (v + w) (ended_by_trap a b v f ∷ ended_by_trap c d (v + w) g ∷ []) names data_then log_then users_then
 
 module _ (x : Environment) (y : System) (a b c d v w : ℕ) (r : RunsAnswering y a b c d v w) (f g : Flat) (s : State) (late raised turns steps : ℕ) (status : Status) (text : List ℕ)
     (h : SystemShown x y s late raised turns steps 100 (HasUsers y) (Answering y a b c d v w f g) status text) where
   abbrev Halts : Type 0
   Halts = (status ≡ Done) × (h.stands.state.status ≡ Halted) × (length h.stands.state.rows ≤ 5 + raised)
-      × (text ≡ rows_text h.stands.state.rows ++ report_of (v + w) (ended a b v f ∷ ended c d (v + w) g ∷ []))
+      × (text ≡ rows_text h.stands.state.rows ++ report_of (v + w) (ended_by_trap a b v f ∷ ended_by_trap c d (v + w) g ∷ []))
 
   by_end : HasHalted x y s turns steps status text h.stands → Halts
   by_end halted =
@@ -142,5 +142,5 @@ any_users_answered images laws counts small takes rise means one two a b c d v w
     let r : RunsAnswering y a b c d v w = runs one two a b c d v w first second fits y (means s.unit s.params read.unit) users (let room = read.room.stack in omega (arith, room)) in (
       text,
       printed,
-      shown (around rows old) y a b c d v w r f g (first_state session s rows before) (steps_before session.start y) (length rows.lines) session.turns session.steps status text shows,
+      shown (environment_of rows old) y a b c d v w r f g (start_state session s rows before) (steps_before session.start y) (length rows.lines) session.turns session.steps status text shows,
     )

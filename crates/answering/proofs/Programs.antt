@@ -7,7 +7,7 @@ use Rattle.mips_table.specs.Flat.{Flat}
 use Rattle.c0_tree.specs.Tree.{CUnit}
 use Rattle.cvm_model.specs.Cvm.{System, first_flat}
 use Rattle.run_scripts.specs.declared.exit_status.Status.{Status}
-use Rattle.run_scripts.specs.Boot.{booted, around, first_state, steps_before}
+use Rattle.run_scripts.specs.Boot.{booted, environment_of, start_state, steps_before}
 use Rattle.user_c0.specs.Image.{image_words}
 use Rattle.user_c0.specs.Program.{steps_of}
 use Rattle.kernel_theorems.specs.UserRuns.{after, told, AsksAndEnds}
@@ -41,7 +41,7 @@ any_programs_answered does law one two n k v w first second fits words status ol
     let (text, printed, shows) = law (image_words one) (image_words two) c.steps c.rest d.steps d.rest v w c.runs d.runs fits words status old new headlines session s rows before h some view system in (
       text,
       printed,
-      shown (around rows old) (booted s rows) (first_state session s rows before) (steps_before session.start (booted s rows)) (length rows.lines) session.turns session.steps one two n k v w c d status text shows,
+      shown (environment_of rows old) (booted s rows) (start_state session s rows before) (steps_before session.start (booted s rows)) (length rows.lines) session.turns session.steps one two n k v w c d status text shows,
     )
 
 -- WITH KNOWN STEPS: first those of the call, and then those behind the answer

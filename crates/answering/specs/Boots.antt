@@ -16,7 +16,7 @@ use Rattle.run_scripts.specs.declared.exit_status.Status.{Status}
 use Rattle.run_scripts.specs.declared.exit_status.Status.TheVariants.{Done, KernelFault, Memory}
 use Rattle.run_scripts.specs.declared.session.Session.{Session}
 use Rattle.cvm_outside.specs.Outside.{Outside}
-use Rattle.run_scripts.specs.Boot.{booted, around, first_state, steps_before, IsHonest}
+use Rattle.run_scripts.specs.Boot.{booted, environment_of, start_state, steps_before, IsHonest}
 use Rattle.run_scripts.specs.CommandEnds.{Headlines}
 use Rattle.kernel_boots.specs.Systems.{AsksSystem, SystemShown}
 use Rattle.kernel_theorems.specs.UserRuns.{after, AsksAndEnds, told}
@@ -28,8 +28,8 @@ abbrev pub report_of : (total : ℕ) → List Flat → List ℕ
 report_of total users = codes "halted\n" ++ (globals_text (codes "total" ∷ []) (part (int (pos total)) empty) ++ log_text [] ++ users_text 1 users)
 
 -- a user's machine behind its end
-abbrev pub ended : (steps rest answer : ℕ) → Flat → Flat
-ended steps rest answer f = after (suc rest) (told (after (suc steps) f) answer)
+abbrev pub ended_by_trap : (steps rest answer : ℕ) → Flat → Flat
+ended_by_trap steps rest answer f = after (suc rest) (told (after (suc steps) f) answer)
 
 -- WHAT A RUN SHOWS of two users that ask with v and w, are answered by v and by the sum, and end: the state where it stands has the invariant; its status is no
 -- kernel's fault; and under a schedule of so many `line` rows, with as many turns more as the users' steps and five, and with the steps of the machine for
@@ -39,7 +39,7 @@ pub record AnswersShown (x : Environment) (y : System) (s : State) (late raised 
   pub no_fault : status ≢ KernelFault
   pub halted : 5 + a + b + c + d + raised ≤ turns → steps_for y (5 + a + b + c + d + raised) (5 + raised) 100 0 + late ≤ steps
       → (status ≡ Done) × (shown.stands.state.status ≡ Halted) × (length shown.stands.state.rows ≤ 5 + raised)
-      × (text ≡ rows_text shown.stands.state.rows ++ report_of (v + w) (ended a b v f ∷ ended c d (v + w) g ∷ []))
+      × (text ≡ rows_text shown.stands.state.rows ++ report_of (v + w) (ended_by_trap a b v f ∷ ended_by_trap c d (v + w) g ∷ []))
 
 -- EACH BOOT of an image with the kernel's text and two such users shows this, under every schedule
 abbrev pub AnyUsersAnswered : Type 0
@@ -48,5 +48,5 @@ AnyUsersAnswered = (one two : List ℕ) (a b c d v w : ℕ) → AsksAndEnds (fir
     → (session : Session) (s : ImageSystem) (rows : Rows) (before : List (List ℕ)) → (h : IsHonest words session s rows before old new)
     → status ≢ Memory → session.view ≡ Boot → AsksSystem kernel_text (one ∷ two ∷ []) h.asked
     → (text : List ℕ) × (new.sink.text ≡ append_known old.sink.text text)
-    × AnswersShown (around rows old) (booted s rows) (first_state session s rows before) (steps_before session.start (booted s rows)) (length rows.lines) session.turns session.steps
+    × AnswersShown (environment_of rows old) (booted s rows) (start_state session s rows before) (steps_before session.start (booted s rows)) (length rows.lines) session.turns session.steps
     a b c d v w (first_flat one) (first_flat two) status text

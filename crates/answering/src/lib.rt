@@ -14,7 +14,7 @@ use kernel_linker::laws::accepted_systems_are_of_their_images;
 use kernel_theorems::{program_texts_mean_trees, texts_mean_trees};
 use mips_table::runs::turns_are_counted;
 use program_systems::{
-    adders_are_counted, adders_call, counts_tell, images_ignore_places, programs_ask_and_end,
+    adders_are_counted, adders_call, counts_tell, images_ignore_spans, programs_ask_and_end,
     texts_are_adders,
 };
 use run_bounds::{bounds_are_small, lines_taken_are_few, raised_lines_are_few};
@@ -68,7 +68,7 @@ pub fn any_counted_programs_answered()
     any_users_answered();
 }
 
-/// A law: so it is of each boot of an image that was linked of what `compile program` put of the two texts, with a total of 265, and with 363 turns more than
+/// A law: so it is of each boot of an image that was linked of what `compile program` put of the two texts, with a total of 265, and with 359 turns more than
 /// the schedule has `line` rows.
 pub fn compiled_answers_boot()
     ensures { CompiledAnswersBoot }
@@ -78,12 +78,12 @@ pub fn compiled_answers_boot()
     program_texts_mean_trees();
     texts_are_adders();
     adders_call();
-    images_ignore_places();
+    images_ignore_spans();
     adders_are_counted();
     any_counted_programs_answered();
 }
 
-/// A law: with 20 pages for each user, 48 frames and no busy times the steps that it asks for are 146,465,275, and 464,561 more for each `line` row.
+/// A law: with 20 pages for each user, 48 frames and no busy times the steps that it asks for are 144,855,031, and 464,561 more for each `line` row.
 pub fn answered_steps_are_few()
     ensures { AnsweredStepsAreFew }
 {}

@@ -13,7 +13,7 @@ use Rattle.boot_image.specs.declared.fault.ImageFault.{ImageFault}
 use Rattle.boot_image.specs.declared.fault.ImageFault.TheVariants.{Magic, Truncated, Parameter}
 use Rattle.boot_image.specs.declared.reading.Header.{Header}
 use Rattle.boot_image.specs.Parts.{ImageParts}
-use Rattle.boot_image.specs.Format.{fields, bare_params, most_words, IsOldSystem, IsInRange, IsOldInRange}
+use Rattle.boot_image.specs.Format.{fields, bare_params, most_user_words, IsOldSystem, IsInRange, IsOldInRange}
 use Rattle.boot_image.specs.Answer.{IsImageAnswer, EndsWithin}
 use Rattle.boot_image.specs.Reading.{mark_at, number_at, form_at, bare_at, system_at, header_of, old_header_of, parts_of, answer, old_answer}
 use Rattle.cvm_words.specs.Bytes.{word}
@@ -32,7 +32,7 @@ use Rattle.boot_image.proofs.Stopped.{same_fault, no_fault, stopped, Cause, caus
 module _ (IsFit : ImageParts → Type 0) (image : ImageParts) (fit : IsFit image) (bytes : List ℕ) (e : ImageFault) where
   -- the first fields are these of an image, and the next one isn't read
   field_so : (first rest left : List ℕ) (which : ℕ) → fields image ≡ first ++ rest → 0 < length rest → bytes ≡ marked first left → which ≡ suc (length first) → Cause which left e (NoneHas IsFit first) → IsImageAnswer IsFit bytes (Err e)
-  field_so first rest left which is some at place cause =
+  field_so first rest left which is some at position cause =
       let taken : take (length first) (fields image) ≡ first = ap (take (length first)) is ∙ take_at first rest (length first) refl in
       let lt : length first < length (fields image) = omega (arith, ap length is, length-append first rest, some) in
       let front : concat (take (length first) (map word (fields image) ++ parts image)) ≡ flat_map word first =
@@ -48,7 +48,7 @@ module _ (IsFit : ImageParts → Type 0) (image : ImageParts) (fit : IsFit image
               left = left;
               spelled = spelled ∙ ap (λ (l : List ℕ). codes "CVMI" ++ (l ++ left)) (sym front);
               short = omega (arith, short.0, field_piece (fields image) (parts image) (length first) lt);
-              place = omega (arith, place, ap length front, length-words first);
+              position = omega (arith, position, ap length front, length-words first);
             })
         | inr w ↦
             subst (λ (k : ImageFault). IsImageAnswer IsFit bytes (Err k)) (sym w.fault)
@@ -61,13 +61,13 @@ module _ (IsFit : ImageParts → Type 0) (image : ImageParts) (fit : IsFit image
               spelled = spelled ∙ ap (λ (l : List ℕ). codes "CVMI" ++ (flat_map word first ++ l)) w.is ∙ ap (λ (l : List ℕ). codes "CVMI" ++ (flat_map word l ++ (word w.value ++ w.rest))) (sym taken);
               bits = w.small;
               wrong = λ other fits same. w.out other fits (same ∙ ap (λ (l : List ℕ). l ++ w.value ∷ []) taken);
-              place = place;
+              position = position;
             })
       ]
 
   -- the fields are those of an image, and so are the first parts
   part_so : (rest : List ℕ) (at : ℕ) → bytes ≡ marked (fields image) rest → at ≡ 4 * suc (length (fields image)) → StopsIn (parts image) at rest e → IsImageAnswer IsFit bytes (Err e)
-  part_so rest at is place (inl c) =
+  part_so rest at is position (inl c) =
       let fs : List ℕ = fields image in
       let m : ℕ = length fs + c.whole in
       let last : List ℕ = concat (take c.whole (parts image)) in
@@ -82,9 +82,9 @@ module _ (IsFit : ImageParts → Type 0) (image : ImageParts) (fit : IsFit image
             is
             ∙ ap (λ (l : List ℕ). codes "CVMI" ++ l) (sym (words-onto fs rest) ∙ ap (λ (l : List ℕ). flat_map word fs ++ l) c.is ∙ sym (append_assoc (flat_map word fs) last c.left) ∙ ap (λ (l : List ℕ). l ++ c.left) (sym front));
         short = omega (arith, c.short, ap length (part_piece fs (parts image) c.whole m refl));
-        place = omega (arith, place, ap length front, length-append (flat_map word fs) last, length-words fs);
+        position = omega (arith, position, ap length front, length-append (flat_map word fs) last, length-words fs);
       })
-  part_so rest at is place (inr g) =
+  part_so rest at is position (inr g) =
       let fs : List ℕ = fields image in
       subst (λ (k : ImageFault). IsImageAnswer IsFit bytes (Err k)) (sym g.fault)
       (record {
@@ -95,7 +95,7 @@ module _ (IsFit : ImageParts → Type 0) (image : ImageParts) (fit : IsFit image
             is
             ∙ ap (λ (l : List ℕ). codes "CVMI" ++ l) (sym (words-onto fs rest) ∙ ap (λ (l : List ℕ). flat_map word fs ++ l) (g.is ∙ ap (λ (l : List ℕ). l ++ g.left) (parts_spell image)) ∙ sym (append_assoc (flat_map word fs) (behind image) g.left));
         more = g.more;
-        place = omega (arith, place, ap length (parts_spell image), length-append (flat_map word fs) (behind image), length-words fs);
+        position = omega (arith, position, ap length (parts_spell image), length-append (flat_map word fs) (behind image), length-words fs);
       })
 
   mark_so : mark_at bytes ≡ Err e → IsImageAnswer IsFit bytes (Err e)
@@ -104,7 +104,7 @@ module _ (IsFit : ImageParts → Type 0) (image : ImageParts) (fit : IsFit image
       elim (cases_lt (length bytes) 4) [
         | inl short ↦
             subst (λ (k : ImageFault). IsImageAnswer IsFit bytes (Err k)) (same_fault _ e (sym (cond-true (ltb (length bytes) 4) _ _ (lt-ltb (length bytes) 4 short)) ∙ h))
-            (ends (record { image = image; fit = fit; whole = 0; left = bytes; spelled = refl; short = short; place = refl }))
+            (ends (record { image = image; fit = fit; whole = 0; left = bytes; spelled = refl; short = short; position = refl }))
         | inr long ↦
             let behind_it = sym (cond-false (ltb (length bytes) 4) _ _ (le-ltb (length bytes) 4 long)) ∙ h in
             elim (cases_Bool (bytes_eq (take 4 bytes) (codes "CVMI"))) [
@@ -146,14 +146,14 @@ module _ (IsFit : ImageParts → Type 0) (form mu mp : ℕ) (l : Limits IsFit fo
       let q : PartsStop header b.counts b.rest e = parts_stopped header b.counts b.rest e b.fits read in
       let p : Params = b.params in
       let many : length q.users ≡ b.users = sym (length-map q.users length) ∙ ap length q.users_many ∙ b.many in
-      let sizes : AllByRecursion (λ u. length u ≤ most_words p.pages) q.users = sizes_back (most_words p.pages) q.users (subst (AllByRecursion (λ n. n ≤ most_words p.pages)) (sym q.users_many) b.sizes) in
+      let sizes : AllByRecursion (λ u. length u ≤ most_user_words p.pages) q.users = sizes_back (most_user_words p.pages) q.users (subst (AllByRecursion (λ n. n ≤ most_user_words p.pages)) (sym q.users_many) b.sizes) in
       let fits : Fits mu mp p q.source q.words q.users = record {
         params = b.range;
         pages = b.pages;
         least = omega (arith, q.words_many, b.least);
         most = omega (arith, q.words_many, b.most);
         few = omega (arith, many, b.few_users);
-        sizes = All-from_recursion (λ (u : List ℕ). length u ≤ most_words p.pages) q.users sizes;
+        sizes = All-from_recursion (λ (u : List ℕ). length u ≤ most_user_words p.pages) q.users sizes;
         source = omega (arith, q.source_many, b.few);
         bits = q.bits;
         user_bits = q.user_bits;

@@ -10,7 +10,7 @@ use Rattle.boot_image.specs.declared.fault.ImageFault.{ImageFault}
 use Rattle.boot_image.specs.declared.fault.ImageFault.TheVariants.{Magic, Truncated, Trailing, Parameter}
 use Rattle.boot_image.specs.declared.reading.Header.{Header}
 use Rattle.boot_image.specs.Parts.{ImageParts}
-use Rattle.boot_image.specs.Format.{fields, most_words}
+use Rattle.boot_image.specs.Format.{fields, most_user_words}
 use Rattle.boot_image.specs.Reading.{system_at, parts_of}
 use Rattle.cvm_words.specs.Bytes.{word}
 use Rattle.cvm_words.proofs.BytesOfWords.{length-words}
@@ -41,7 +41,7 @@ pub record Reads (IsFit : ImageParts → Type 0) (read : List ℕ → Result Ima
 pub record Headed (IsFit : ImageParts → Type 0) (head : List ℕ → Found) (ns : List ℕ) (i : ImageParts) : Type 0 where
   pub header : Header
   pub sized : Sized header i
-  pub place : header.parts_at ≡ 4 * suc (length ns)
+  pub position : header.parts_at ≡ 4 * suc (length ns)
   pub is : (rest : List ℕ) → head (marked ns rest) ≡ Ok (header, (map length i.users, rest))
   pub short : (j : ℕ) (left : List ℕ) → j < length ns → length left < 4 → head (marked (take j ns) left) ≡ Err (Truncated (4 * suc j))
   pub out : (j : ℕ) (left : List ℕ) (value : ℕ) → j < length ns → value < 2 ^ 32 → NoneHas IsFit (take j ns) value → head (marked (take j ns) (word value ++ left)) ≡ Err (Parameter (suc j) value)
@@ -77,7 +77,7 @@ module _ (IsFit : ImageParts → Type 0) (read : List ℕ → Result ImageParts 
       truncated_at (h.header.parts_at + length front) (length (concat (take (suc m) (pieces_of ns i))))
       (ap (λ (l : List ℕ). read (codes "CVMI" ++ (l ++ left))) is ∙ ap (λ (l : List ℕ). read (codes "CVMI" ++ l)) (append_assoc (flat_map word ns) front left ∙ words-onto ns (front ++ left))
       ∙ parts_fail (front ++ left) (Truncated (h.header.parts_at + length front)) (parts_stop h.header i h.sized j left few))
-      (omega (arith, ap length is, length-append (flat_map word ns) front, length-words ns, h.place))
+      (omega (arith, ap length is, length-append (flat_map word ns) front, length-words ns, h.position))
 
   pub cut_so : (whole : ℕ) (left : List ℕ) → length left < length (get_or (pieces_of ns i) whole []) → read (concat (take whole (pieces_of ns i)) ++ left) ≡ Err (Truncated (length (concat (take whole (pieces_of ns i)))))
   cut_so zero left short = header_fails left (Truncated 0) (reads.mark_short left short)
@@ -95,7 +95,7 @@ module _ (IsFit : ImageParts → Type 0) (read : List ℕ → Result ImageParts 
 
   pub go_so : (left : List ℕ) → 0 < length left → read (spelling_of ns i ++ left) ≡ Err (Trailing (length (spelling_of ns i)))
   go_so left more =
-      let at : h.header.parts_at + length (behind i) ≡ length (spelling_of ns i) = omega (arith, h.place, length-append (flat_map word ns) (behind i), length-words ns) in
+      let at : h.header.parts_at + length (behind i) ≡ length (spelling_of ns i) = omega (arith, h.position, length-append (flat_map word ns) (behind i), length-words ns) in
       ap (λ (l : List ℕ). read (codes "CVMI" ++ l)) (append_assoc (flat_map word ns) (behind i) left ∙ words-onto ns (behind i ++ left))
       ∙ parts_fail (behind i ++ left) (Trailing (h.header.parts_at + length (behind i))) (parts_go h.header i h.sized left more)
       ∙ ap (λ (n : ℕ). Err (Trailing n)) at
@@ -159,12 +159,12 @@ module _ (IsFit : ImageParts → Type 0) (read : List ℕ → Result ImageParts 
       record {
         header = record { form = form; params = p; source_length = length source; word_count = length words; parts_at = 36 + 4 * length counts };
         sized = record { source = refl; words = refl };
-        place = omega arith;
+        position = omega arith;
         is =
             λ rest.
             let behind_users : List ℕ → List ℕ = λ m. codes "CVMI" ++ (word form ++ (m ++ onto (p.pages ∷ p.frames ∷ p.heap ∷ p.stack ∷ length source ∷ length words ∷ counts) rest)) in
             ap (λ (n : ℕ). head (behind_users (word n))) (sym counted)
-            ∙ goes _ _ (system_whole form mu mp p (length source) (length words) counts rest limits.users s.params s.pages s.source s.least s.most (omega (arith, counted, s.few)) (sizes_of (most_words p.pages) us (recursion_from_All (λ (u : List ℕ). length u ≤ most_words p.pages) us s.sizes)));
+            ∙ goes _ _ (system_whole form mu mp p (length source) (length words) counts rest limits.users s.params s.pages s.source s.least s.most (omega (arith, counted, s.few)) (sizes_of (most_user_words p.pages) us (recursion_from_All (λ (u : List ℕ). length u ≤ most_user_words p.pages) us s.sizes)));
         short = short;
         out = out;
       }

@@ -9,7 +9,7 @@ use Rattle.std.proofs.lemmas.List.Elements.{All-from_recursion, recursion_from_A
 use Rattle.layer_map.specs.declared.params.Params.{Params}
 use Rattle.layer_map.specs.Map.{ParamsInRange}
 use Rattle.boot_image.specs.Parts.{ImageParts}
-use Rattle.boot_image.specs.Format.{fields, most_words, AreWords}
+use Rattle.boot_image.specs.Format.{fields, most_user_words, AreWords}
 use Rattle.boot_image.proofs.Steps.{system, sizes_of, Fits}
 
 -- the least number that may stand behind these
@@ -32,7 +32,7 @@ most_behind most_users most_pages (users ∷ pages ∷ frames ∷ []) = 1048576
 most_behind most_users most_pages (users ∷ pages ∷ frames ∷ heap ∷ []) = 262144
 most_behind most_users most_pages (users ∷ pages ∷ frames ∷ heap ∷ stack ∷ []) = 1048576
 most_behind most_users most_pages (users ∷ pages ∷ frames ∷ heap ∷ stack ∷ source ∷ []) = 4194304
-most_behind most_users most_pages (users ∷ pages ∷ frames ∷ heap ∷ stack ∷ source ∷ words ∷ counts) = most_words pages
+most_behind most_users most_pages (users ∷ pages ∷ frames ∷ heap ∷ stack ∷ source ∷ words ∷ counts) = most_user_words pages
 
 -- a number that may stand behind these
 abbrev pub MayFollow : ℕ → ℕ → List ℕ → ℕ → Type 0
@@ -61,11 +61,11 @@ right_more mu mp before (m ∷ ns) n r h = (r.0, right_more mu mp (before ++ m �
 abbrev pub seven : Params → ℕ → ℕ → ℕ → List ℕ → List ℕ
 seven p users n k counts = users ∷ p.pages ∷ p.frames ∷ p.heap ∷ p.stack ∷ n ∷ k ∷ counts
 
-counts_right : (mu mp : ℕ) (p : Params) (users n k : ℕ) (done counts : List ℕ) → AllByRecursion (λ c. c ≤ most_words p.pages) counts → Right mu mp (seven p users n k done) counts
+counts_right : (mu mp : ℕ) (p : Params) (users n k : ℕ) (done counts : List ℕ) → AllByRecursion (λ c. c ≤ most_user_words p.pages) counts → Right mu mp (seven p users n k done) counts
 counts_right mu mp p users n k done [] all = tt
 counts_right mu mp p users n k done (c ∷ counts) all = ((omega arith, all.0), counts_right mu mp p users n k (done ++ c ∷ []) counts all.1)
 
-pub counts_in : (mu mp : ℕ) (p : Params) (users n k : ℕ) (done counts : List ℕ) → Right mu mp (seven p users n k done) counts → AllByRecursion (λ c. c ≤ most_words p.pages) counts
+pub counts_in : (mu mp : ℕ) (p : Params) (users n k : ℕ) (done counts : List ℕ) → Right mu mp (seven p users n k done) counts → AllByRecursion (λ c. c ≤ most_user_words p.pages) counts
 counts_in mu mp p users n k done [] r = tt
 counts_in mu mp p users n k done (c ∷ counts) r = (r.0.1, counts_in mu mp p users n k (done ++ c ∷ []) counts r.1)
 
@@ -81,7 +81,7 @@ fields_system form p source words us other = cond-false (nat_eq form 1) _ _ othe
 -- the fields of a system that fits are right
 pub fits_right : (mu mp : ℕ) (p : Params) (source words : List ℕ) (us : List (List ℕ)) → Fits mu mp p source words us → Right mu mp [] (behind_form p source words us)
 fits_right mu mp p source words us s =
-    let sizes = sizes_of (most_words p.pages) us (recursion_from_All (λ (u : List ℕ). length u ≤ most_words p.pages) us s.sizes) in
+    let sizes = sizes_of (most_user_words p.pages) us (recursion_from_All (λ (u : List ℕ). length u ≤ most_user_words p.pages) us s.sizes) in
     let counts = counts_right mu mp p (length us) (length source) (length words) [] (map length us) sizes in
     ((omega arith, s.few), ((s.params.a_page, s.pages), ((s.params.two_frames, s.params.frames), ((omega arith, s.params.heap), ((s.params.least_stack, s.params.stack), ((omega arith, s.source), ((s.least, s.most), counts)))))))
 
@@ -144,7 +144,7 @@ pub record Limits (IsFit : ImageParts → Type 0) (form mu mp : ℕ) : Type 0 wh
   pub fit : (p : Params) (source words : List ℕ) (us : List (List ℕ)) → Fits mu mp p source words us → IsFit (system form p source words us)
 
 module _ (IsFit : ImageParts → Type 0) (form mu mp : ℕ) (limits : Limits IsFit form mu mp) where
-  exemplified : (p : Params) (users n k : ℕ) (done : List ℕ) (m : ℕ) → ParamsInRange p → p.pages ≤ mp → users ≤ mu → n ≤ 1048576 → 16384 ≤ k → k ≤ 4194304 → length done + m ≡ users → AllByRecursion (λ c. c ≤ most_words p.pages) done → Example IsFit (form ∷ seven p users n k (done ++ replicate m 0))
+  exemplified : (p : Params) (users n k : ℕ) (done : List ℕ) (m : ℕ) → ParamsInRange p → p.pages ≤ mp → users ≤ mu → n ≤ 1048576 → 16384 ≤ k → k ≤ 4194304 → length done + m ≡ users → AllByRecursion (λ c. c ≤ most_user_words p.pages) done → Example IsFit (form ∷ seven p users n k (done ++ replicate m 0))
   exemplified p users n k done m range pages few source least most many sizes =
       let counts : List ℕ = done ++ replicate m 0 in
       let us : List (List ℕ) = zeros counts in
@@ -160,7 +160,7 @@ module _ (IsFit : ImageParts → Type 0) (form mu mp : ℕ) (limits : Limits IsF
         least = omega (arith, words_are, least);
         most = omega (arith, words_are, most);
         few = omega (arith, users_are, few);
-        sizes = All-from_recursion (λ (u : List ℕ). length u ≤ most_words p.pages) us (sizes_zeros (most_words p.pages) counts (and_zeros (most_words p.pages) done m sizes));
+        sizes = All-from_recursion (λ (u : List ℕ). length u ≤ most_user_words p.pages) us (sizes_zeros (most_user_words p.pages) counts (and_zeros (most_user_words p.pages) done m sizes));
         source = omega (arith, text_is, source);
         bits = words_zeros k;
         user_bits = All-from_recursion AreWords us (users_zeros counts);

@@ -157,7 +157,7 @@ module _ (source : List ℕ) (few : length source ≤ 1048576) where
   bare_headed = record {
     header = record { form = 1; params = bare_params; source_length = length source; word_count = 0; parts_at = 12 };
     sized = record { source = refl; words = refl };
-    place = refl;
+    position = refl;
     is = λ rest. bare_whole (length source) rest few;
     short = short;
     out = out;
@@ -223,9 +223,9 @@ module _ (IsFit : ImageParts → Type 0) (read : List ℕ → Result ImageParts 
   is_read : (bytes : List ℕ) (r : Result ImageParts ImageFault) → IsImageAnswer IsFit bytes r → read bytes ≡ r
   is_read bytes (Ok i) is = ap read is.1 ∙ back i is.0
   is_read bytes (Err Magic) is = by.by bytes (Err Magic) (by.mark_other bytes is.0 is.1)
-  is_read bytes (Err (Truncated at)) is = ap read is.spelled ∙ (so is.image is.fit).cut is.whole is.left is.short ∙ ap (λ (n : ℕ). Err (Truncated n)) (sym is.place)
-  is_read bytes (Err (Parameter which value)) is = ap read is.spelled ∙ (so is.image is.fit).wrong is.before is.left value is.field is.bits is.wrong ∙ ap (λ (n : ℕ). Err (Parameter n value)) (sym is.place)
-  is_read bytes (Err (Trailing at)) is = ap read is.spelled ∙ (so is.image is.fit).go is.left is.more ∙ ap (λ (n : ℕ). Err (Trailing n)) (sym is.place)
+  is_read bytes (Err (Truncated at)) is = ap read is.spelled ∙ (so is.image is.fit).cut is.whole is.left is.short ∙ ap (λ (n : ℕ). Err (Truncated n)) (sym is.position)
+  is_read bytes (Err (Parameter which value)) is = ap read is.spelled ∙ (so is.image is.fit).wrong is.before is.left value is.field is.bits is.wrong ∙ ap (λ (n : ℕ). Err (Parameter n value)) (sym is.position)
+  is_read bytes (Err (Trailing at)) is = ap read is.spelled ∙ (so is.image is.fit).go is.left is.more ∙ ap (λ (n : ℕ). Err (Trailing n)) (sym is.position)
   is_read bytes (Err Memory) is = absurd is
 
 pub answer_only : (bytes : List ℕ) (r : Result ImageParts ImageFault) → IsImageAnswer IsInRange bytes r → answer bytes ≡ r

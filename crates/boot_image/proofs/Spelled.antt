@@ -14,7 +14,7 @@ use Rattle.boot_image.specs.declared.fault.ImageFault.TheVariants.{Truncated, Pa
 use Rattle.boot_image.specs.declared.reading.Header.{Header}
 use Rattle.boot_image.specs.Parts.{ImageParts}
 use Rattle.cvm_words.specs.Bytes.{word, words_of_bytes}
-use Rattle.boot_image.specs.Format.{spelling, bare_params, most_words, AreWords, IsSystem, IsOldSystem, IsInRange, IsOldInRange}
+use Rattle.boot_image.specs.Format.{spelling, bare_params, most_user_words, AreWords, IsSystem, IsOldSystem, IsInRange, IsOldInRange}
 use Rattle.cvm_words.specs.Reading.{◌>>=◌}
 use Rattle.boot_image.specs.Reading.{mark_at, number_at, form_at, params_at, counts_at, bare_at, system_at, header_of, old_header_of, part_at, users_at, parts_of, image_of, users_of, answer, old_answer}
 use Rattle.cvm_words.proofs.BytesOfWords.{length-word, number-word, words_of-words, IsBytes, IsBytes-drop, IsBytes-take, Front, front, Made, made}
@@ -280,7 +280,7 @@ pub record SystemIs (form most_users most_pages : ℕ) (bytes : List ℕ) (x : H
   pub most : k ≤ 4194304
   pub many : length counts ≡ users
   pub few_users : users ≤ most_users
-  pub sizes : AllByRecursion (λ c. c ≤ most_words params.pages) counts
+  pub sizes : AllByRecursion (λ c. c ≤ most_user_words params.pages) counts
   pub found : x ≡ (record { form = form; params = params; source_length = n; word_count = k; parts_at = 36 + 4 * users }, (counts, rest))
   pub is : bytes ≡ codes "CVMI" ++ (word form ++ (word users ++ onto (params.pages ∷ params.frames ∷ params.heap ∷ params.stack ∷ []) (word n ++ (word k ++ onto counts rest))))
   pub fits : IsBytes rest
@@ -303,8 +303,8 @@ system_is form users pages limit bytes rest x is h fits =
     let n : NumberIs 0 1048576 b.x.1 c.x = number_is 7 0 1048576 b.x.1 c.x p.fits c.is in
     let d = went (number_at 8 16384 4194304 c.x.1) _ x c.next in
     let k : NumberIs 16384 4194304 c.x.1 d.x = number_is 8 16384 4194304 c.x.1 d.x n.fits d.is in
-    let e = went (counts_at [] (most_words b.x.0.pages) a.x.0 d.x.1) _ x d.next in
-    let s : CountsAre [] (most_words b.x.0.pages) a.x.0 d.x.1 e.x = counts_are [] (most_words b.x.0.pages) a.x.0 d.x.1 e.x e.is k.fits in
+    let e = went (counts_at [] (most_user_words b.x.0.pages) a.x.0 d.x.1) _ x d.next in
+    let s : CountsAre [] (most_user_words b.x.0.pages) a.x.0 d.x.1 e.x = counts_are [] (most_user_words b.x.0.pages) a.x.0 d.x.1 e.x e.is k.fits in
     record {
       params = b.x.0;
       users = a.x.0;
@@ -413,7 +413,7 @@ record Whole (form most_users most_pages : ℕ) (bytes : List ℕ) (image : Imag
   least : 16384 ≤ length words
   most : length words ≤ 4194304
   few_users : length users ≤ most_users
-  sizes : All (λ (u : List ℕ). length u ≤ most_words params.pages) users
+  sizes : All (λ (u : List ℕ). length u ≤ most_user_words params.pages) users
   bits : AreWords words
   user_bits : All AreWords users
   spelled : bytes ≡ system_spelling form params source words users
@@ -425,7 +425,7 @@ whole_from form users pages bytes x y b h =
     let p : PartsAre header b.counts b.rest y = parts_are header b.counts b.rest y read b.fits in
     let many : b.users ≡ length p.users = sym b.many ∙ ap length (sym p.users_many) ∙ length-map p.users length in
     let rest : List ℕ = p.source ++ (flat_map word p.words ++ flat_map (flat_map word) p.users) in
-    let sizes : AllByRecursion (λ u. length u ≤ most_words b.params.pages) p.users = sizes_back (most_words b.params.pages) p.users (subst (AllByRecursion (λ n. n ≤ most_words b.params.pages)) (sym p.users_many) b.sizes) in
+    let sizes : AllByRecursion (λ u. length u ≤ most_user_words b.params.pages) p.users = sizes_back (most_user_words b.params.pages) p.users (subst (AllByRecursion (λ n. n ≤ most_user_words b.params.pages)) (sym p.users_many) b.sizes) in
     let numbers : List ℕ = form ∷ length p.users ∷ b.params.pages ∷ b.params.frames ∷ b.params.heap ∷ b.params.stack ∷ length p.source ∷ length p.words ∷ map length p.users in
     record {
       params = b.params;
@@ -439,7 +439,7 @@ whole_from form users pages bytes x y b h =
       least = omega (arith, p.words_many, b.least);
       most = omega (arith, p.words_many, b.most);
       few_users = omega (arith, many, b.few_users);
-      sizes = All-from_recursion (λ (u : List ℕ). length u ≤ most_words b.params.pages) p.users sizes;
+      sizes = All-from_recursion (λ (u : List ℕ). length u ≤ most_user_words b.params.pages) p.users sizes;
       bits = p.bits;
       user_bits = p.user_bits;
       spelled =

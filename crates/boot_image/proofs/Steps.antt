@@ -14,7 +14,7 @@ use Rattle.boot_image.specs.declared.fault.ImageFault.TheVariants.{Parameter}
 use Rattle.boot_image.specs.declared.reading.Header.{Header}
 use Rattle.boot_image.specs.Parts.{ImageParts}
 use Rattle.cvm_words.specs.Bytes.{word, words_of_bytes}
-use Rattle.boot_image.specs.Format.{spelling, bare_params, most_words, AreWords, IsBare, IsOldSystem, HasOldSpelling, IsInRange, IsOldInRange}
+use Rattle.boot_image.specs.Format.{spelling, bare_params, most_user_words, AreWords, IsBare, IsOldSystem, HasOldSpelling, IsInRange, IsOldInRange}
 use Rattle.cvm_words.specs.Reading.{◌>>=◌}
 use Rattle.boot_image.specs.Reading.{mark_at, number_at, form_at, params_at, counts_at, bare_at, system_at, header_of, old_header_of, part_at, users_at, parts_of, users_of, answer, old_answer}
 use Rattle.cvm_words.proofs.BytesOfWords.{length-word, number-word, length-words, words_of-words}
@@ -81,14 +81,14 @@ bare_whole n rest few =
     step _ (mark_whole (codes "CVMI") _ refl refl) (step _ (form_one _) (step _ (number_whole 2 0 1048576 n rest (omega (arith, few)) (omega arith) few) refl))
 
 -- a system of a form, with so many users and pages at most, behind that form
-pub system_whole : (form users pages : ℕ) (p : Params) (n k : ℕ) (counts rest : List ℕ) → users ≤ 64 → ParamsInRange p → p.pages ≤ pages → n ≤ 1048576 → 16384 ≤ k → k ≤ 4194304 → length counts ≤ users → AllByRecursion (λ c. c ≤ most_words p.pages) counts → system_at form users pages (word (length counts) ++ onto (p.pages ∷ p.frames ∷ p.heap ∷ p.stack ∷ []) (word n ++ (word k ++ onto counts rest))) ≡ Ok (record { form = form; params = p; source_length = n; word_count = k; parts_at = 36 + 4 * length counts }, (counts, rest))
+pub system_whole : (form users pages : ℕ) (p : Params) (n k : ℕ) (counts rest : List ℕ) → users ≤ 64 → ParamsInRange p → p.pages ≤ pages → n ≤ 1048576 → 16384 ≤ k → k ≤ 4194304 → length counts ≤ users → AllByRecursion (λ c. c ≤ most_user_words p.pages) counts → system_at form users pages (word (length counts) ++ onto (p.pages ∷ p.frames ∷ p.heap ∷ p.stack ∷ []) (word n ++ (word k ++ onto counts rest))) ≡ Ok (record { form = form; params = p; source_length = n; word_count = k; parts_at = 36 + 4 * length counts }, (counts, rest))
 unfolding system_at
 system_whole form users pages p n k counts rest limit fits low few least most many sizes =
     step _ (number_whole 2 0 users (length counts) _ (omega (arith, many, limit)) (omega arith) many)
     (step _ (params_whole pages p _ fits low)
     (step _ (number_whole 7 0 1048576 n _ (omega (arith, few)) (omega arith) few)
     (step _ (number_whole 8 16384 4194304 k _ (omega (arith, most)) least most)
-    (step _ (counts_whole [] counts (most_words p.pages) rest (omega arith) sizes) refl))))
+    (step _ (counts_whole [] counts (most_user_words p.pages) rest (omega arith) sizes) refl))))
 
 pub header_three : (rest : List ℕ) (r : Found) → system_at 3 64 1024 rest ≡ r → header_of (codes "CVMI" ++ (word 3 ++ rest)) ≡ r
 unfolding header_of
@@ -179,7 +179,7 @@ pub record Fits (users_most pages_most : ℕ) (p : Params) (text ws : List ℕ) 
   pub least : 16384 ≤ length ws
   pub most : length ws ≤ 4194304
   pub few : length us ≤ users_most
-  pub sizes : All (λ u. length u ≤ most_words p.pages) us
+  pub sizes : All (λ u. length u ≤ most_user_words p.pages) us
   pub source : length text ≤ 1048576
   pub bits : AreWords ws
   pub user_bits : All AreWords us
@@ -191,7 +191,7 @@ system_read form users pages p source words us head limit s reads =
     let many : length counts ≡ length us = length-map us length in
     let h : Header = record { form = form; params = p; source_length = length source; word_count = length words; parts_at = 36 + 4 * length counts } in
     let rest : List ℕ = source ++ (flat_map word words ++ flat_map (flat_map word) us) in
-    let sizes : AllByRecursion (λ n. n ≤ most_words p.pages) counts = sizes_of (most_words p.pages) us (recursion_from_All (λ (u : List ℕ). length u ≤ most_words p.pages) us s.sizes) in
+    let sizes : AllByRecursion (λ n. n ≤ most_user_words p.pages) counts = sizes_of (most_user_words p.pages) us (recursion_from_All (λ (u : List ℕ). length u ≤ most_user_words p.pages) us s.sizes) in
     let tail : List ℕ → List ℕ = λ m. codes "CVMI" ++ (word form ++ (m ++ onto (p.pages ∷ p.frames ∷ p.heap ∷ p.stack ∷ []) (word (length source) ++ (word (length words) ++ onto counts rest)))) in
     ap (λ (l : List ℕ). answered (head (codes "CVMI" ++ l))) (words-onto (form ∷ length us ∷ p.pages ∷ p.frames ∷ p.heap ∷ p.stack ∷ length source ∷ length words ∷ counts) rest)
     ∙ ap (λ (n : ℕ). answered (head (tail (word n)))) (sym many)

@@ -9,7 +9,7 @@ use Rattle.layer_map.specs.declared.params.Params.{Params}
 use Rattle.boot_image.specs.declared.fault.ImageFault.{ImageFault}
 use Rattle.boot_image.specs.declared.fault.ImageFault.TheVariants.{Truncated, Trailing, Parameter}
 use Rattle.boot_image.specs.declared.reading.Header.{Header}
-use Rattle.boot_image.specs.Format.{most_words, AreWords}
+use Rattle.boot_image.specs.Format.{most_user_words, AreWords}
 use Rattle.cvm_words.specs.Reading.{◌>>=◌}
 use Rattle.boot_image.specs.Reading.{number_at, params_at, counts_at, system_at, part_at, users_at, parts_of}
 use Rattle.cvm_words.specs.Bytes.{word}
@@ -113,13 +113,13 @@ number_stopped mu mp before bytes f e fits room h goes =
           }
     ]
 
-counts_stopped : (mu mp : ℕ) (p : Params) (all n k : ℕ) (done : List ℕ) (users : ℕ) (bytes : List ℕ) (e : ImageFault) → length done + users ≡ all → IsBytes bytes → counts_at done (most_words p.pages) users bytes ≡ Err e → Stop mu mp (seven p all n k done) bytes e
+counts_stopped : (mu mp : ℕ) (p : Params) (all n k : ℕ) (done : List ℕ) (users : ℕ) (bytes : List ℕ) (e : ImageFault) → length done + users ≡ all → IsBytes bytes → counts_at done (most_user_words p.pages) users bytes ≡ Err e → Stop mu mp (seven p all n k done) bytes e
 unfolding counts_at
 counts_stopped mu mp p all n k done zero bytes e many fits h = no_fault _ _ e h
 counts_stopped mu mp p all n k done (suc users) bytes e many fits h =
     let which : 2 + length (seven p all n k done) ≡ 9 + length done = omega arith in
-    number_stopped mu mp (seven p all n k done) bytes (λ c. counts_at (done ++ c.0 ∷ []) (most_words p.pages) users c.1) e fits (omega (arith, many))
-    (ap (λ (w : ℕ). number_at w 0 (most_words p.pages) bytes >>= λ c. counts_at (done ++ c.0 ∷ []) (most_words p.pages) users c.1) which ∙ h)
+    number_stopped mu mp (seven p all n k done) bytes (λ c. counts_at (done ++ c.0 ∷ []) (most_user_words p.pages) users c.1) e fits (omega (arith, many))
+    (ap (λ (w : ℕ). number_at w 0 (most_user_words p.pages) bytes >>= λ c. counts_at (done ++ c.0 ∷ []) (most_user_words p.pages) users c.1) which ∙ h)
     (λ c rest may more next. counts_stopped mu mp p all n k (done ++ c ∷ []) users rest e (omega (arith, many, length-append done (c ∷ []))) more next)
 
 params_stopped : (mu mp users : ℕ) (bytes : List ℕ) (e : ImageFault) → IsBytes bytes → params_at mp bytes ≡ Err e → Stop mu mp (users ∷ []) bytes e
@@ -155,9 +155,9 @@ system_stopped form mu mp bytes e limit fits h =
           }
     ])
   where
-    all_counts : (ps : Params) (users source words : ℕ) (rest : List ℕ) (f : List ℕ × List ℕ → Result (Header × (List ℕ × List ℕ)) ImageFault) → IsBytes rest → (counts_at [] (most_words ps.pages) users rest >>= f) ≡ Err e → ((x : List ℕ × List ℕ) → (P : Type 0) → f x ≡ Err e → P) → Stop mu mp (seven ps users source words []) rest e
+    all_counts : (ps : Params) (users source words : ℕ) (rest : List ℕ) (f : List ℕ × List ℕ → Result (Header × (List ℕ × List ℕ)) ImageFault) → IsBytes rest → (counts_at [] (most_user_words ps.pages) users rest >>= f) ≡ Err e → ((x : List ℕ × List ℕ) → (P : Type 0) → f x ≡ Err e → P) → Stop mu mp (seven ps users source words []) rest e
     all_counts ps users source words rest f fits h good =
-        elim (stopped (counts_at [] (most_words ps.pages) users rest) f e h) [
+        elim (stopped (counts_at [] (most_user_words ps.pages) users rest) f e h) [
           | inl s ↦ counts_stopped mu mp ps users source words [] users rest e (omega arith) fits s
           | inr w ↦ good w.x _ w.next
         ]
@@ -238,14 +238,14 @@ users_stopped at (n ∷ counts) rest e fits h =
           let m : Made n (take (4 * n) rest) = made n (take (4 * n) rest) (IsBytes-take (4 * n) rest fits) (omega (arith, length-take (4 * n) rest, long)) in
           let next : users_at (at + 4 * n) counts (drop (4 * n) rest) ≡ Err e = sym (users_first at n counts rest (Ok (take (4 * n) rest, drop (4 * n) rest)) (part_whole at (4 * n) rest long)) ∙ h in
           let r : UsersStop (at + 4 * n) counts (drop (4 * n) rest) e = users_stopped (at + 4 * n) counts (drop (4 * n) rest) e (IsBytes-drop (4 * n) rest fits) next in
-          let place : at + 4 * n ≡ at + length (flat_map word m.words) = omega (arith, length-words m.words, m.counted) in
+          let position : at + 4 * n ≡ at + length (flat_map word m.words) = omega (arith, length-words m.words, m.counted) in
           record {
             users = m.words ∷ r.users;
             many = ap (λ (k : ℕ). k ∷ map length r.users) m.counted ∙ ap (λ (l : List ℕ). n ∷ l) r.many;
             bits = (All-from_recursion (λ w. w < 2 ^ 32) m.words m.small, r.bits);
             stops =
                 stops_behind (flat_map word m.words) (map (flat_map word) r.users) at rest (drop (4 * n) rest) e (sym (take-append-drop (4 * n) rest) ∙ ap (λ (l : List ℕ). l ++ drop (4 * n) rest) m.is)
-                (subst (λ (a : ℕ). StopsIn (map (flat_map word) r.users) a (drop (4 * n) rest) e) place r.stops);
+                (subst (λ (a : ℕ). StopsIn (map (flat_map word) r.users) a (drop (4 * n) rest) e) position r.stops);
           }
     ]
 
@@ -272,7 +272,7 @@ words_stopped : (h : Header) (counts rest source others : List ℕ) (e : ImageFa
 words_stopped h counts rest source others e fits is many next =
     let k : ℕ = h.word_count in
     let at : ℕ = h.parts_at + h.source_length in
-    let place : at ≡ h.parts_at + length source = omega (arith, many) in
+    let position : at ≡ h.parts_at + length source = omega (arith, many) in
     elim (cases_lt (length others) (4 * k)) [
       | inl short ↦
           let fault : e ≡ Truncated at = sym (same_fault _ e (sym (ap (λ (q : Result (List ℕ × List ℕ) ImageFault). q >>= then_users h counts source) (part_short at (4 * k) others short)) ∙ next)) in
@@ -287,7 +287,7 @@ words_stopped h counts rest source others e fits is many next =
             user_bits = All-from_recursion AreWords (zeros counts) (users_zeros counts);
             stops =
                 stops_behind source (flat_map word (replicate k 0) ∷ map (flat_map word) (zeros counts)) h.parts_at rest others e is
-                (stops_here (flat_map word (replicate k 0)) (map (flat_map word) (zeros counts)) (h.parts_at + length source) others e (omega (arith, short, length-words (replicate k 0), length-replicate {A = ℕ} k 0)) (fault ∙ ap (λ (n : ℕ). Truncated n) place));
+                (stops_here (flat_map word (replicate k 0)) (map (flat_map word) (zeros counts)) (h.parts_at + length source) others e (omega (arith, short, length-words (replicate k 0), length-replicate {A = ℕ} k 0)) (fault ∙ ap (λ (n : ℕ). Truncated n) position));
           }
       | inr long ↦
           let left : List ℕ = drop (4 * k) others in

@@ -8,7 +8,7 @@ use Rattle.boot_image.specs.declared.fault.ImageFault.{ImageFault}
 use Rattle.boot_image.specs.declared.fault.ImageFault.TheVariants.{Truncated, Trailing}
 use Rattle.boot_image.specs.declared.reading.Header.{Header}
 use Rattle.boot_image.specs.Parts.{ImageParts}
-use Rattle.boot_image.specs.Format.{most_words}
+use Rattle.boot_image.specs.Format.{most_user_words}
 use Rattle.cvm_words.specs.Reading.{◌>>=◌}
 use Rattle.boot_image.specs.Reading.{number_at, params_at, counts_at, system_at, users_at, parts_of}
 use Rattle.cvm_words.specs.Bytes.{word}
@@ -22,7 +22,7 @@ use Rattle.boot_image.proofs.Ranges.{least_behind, most_behind, Right, counts_in
 pub stop : {A B : Type 0} {r : Result A ImageFault} {e : ImageFault} (f : A → Result B ImageFault) → r ≡ Err e → (r >>= f) ≡ Err e
 stop f is = ap (λ q. q >>= f) is
 
--- a fault whose place is said otherwise
+-- a fault whose position is said otherwise
 pub truncated_at : {A : Type 0} {r : Result A ImageFault} (a b : ℕ) → r ≡ Err (Truncated a) → a ≡ b → r ≡ Err (Truncated b)
 truncated_at a b is same = is ∙ ap (λ (n : ℕ). Err (Truncated n)) same
 
@@ -85,12 +85,12 @@ module _ (form mu mp : ℕ) (few_users : mu ≤ 64) (limit : mp ≤ 1024) where
       (step _ (params_whole mp p _ (params_right mu mp users pages frames heap stack (source ∷ []) limit r) r.1.0.1) (step _ (text_whole source left r.1.1.1.1.1.0.1) (stop _ s)))
   system_stop (users ∷ pages ∷ frames ∷ heap ∷ stack ∷ source ∷ words ∷ counts) left e r room s =
       let p : Params = record { pages = pages; frames = frames; heap = heap; stack = stack } in
-      let sizes : AllByRecursion (λ c. c ≤ most_words pages) counts = counts_in mu mp p users source words [] counts r.1.1.1.1.1.1.1 in
+      let sizes : AllByRecursion (λ c. c ≤ most_user_words pages) counts = counts_in mu mp p users source words [] counts r.1.1.1.1.1.1.1 in
       step _ (users_whole users _ r.0.1)
       (step _ (params_whole mp p _ (params_right mu mp users pages frames heap stack (source ∷ words ∷ counts) limit r) r.1.0.1)
       (step _ (text_whole source _ r.1.1.1.1.1.0.1)
       (step _ (number_whole 8 16384 4194304 words _ (omega (arith, r.1.1.1.1.1.1.0.1)) r.1.1.1.1.1.1.0.0 r.1.1.1.1.1.1.0.1)
-      (stop _ (counts_stop [] counts (most_words pages) users (2 + length (users ∷ pages ∷ frames ∷ heap ∷ stack ∷ source ∷ words ∷ counts)) left e (omega arith) sizes (omega (arith, room)) (omega arith) s)))))
+      (stop _ (counts_stop [] counts (most_user_words pages) users (2 + length (users ∷ pages ∷ frames ∷ heap ∷ stack ∷ source ∷ words ∷ counts)) left e (omega arith) sizes (omega (arith, room)) (omega arith) s)))))
 
 -- ---- the parts
 

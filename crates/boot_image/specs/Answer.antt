@@ -19,7 +19,7 @@ pub record EndsWithin (IsFit : ImageParts → Type 0) (bytes : List ℕ) (at : �
   pub left : List ℕ
   pub spelled : bytes ≡ concat (take whole (pieces image)) ++ left
   pub short : length left < length (slice_index_or (pieces image) whole [])
-  pub place : at ≡ length (concat (take whole (pieces image)))
+  pub position : at ≡ length (concat (take whole (pieces image)))
 
 -- behind the mark stand the first fields of an image, up to word `which`, and there a number that no image has behind these
 pub record HasWrongField (IsFit : ImageParts → Type 0) (bytes : List ℕ) (which value : ℕ) : Type 0 where
@@ -31,7 +31,7 @@ pub record HasWrongField (IsFit : ImageParts → Type 0) (bytes : List ℕ) (whi
   pub spelled : bytes ≡ codes "CVMI" ++ (flat_map word (take before (fields image)) ++ (word value ++ left))
   pub bits : value < 2 ^ 32
   pub wrong : (other : ImageParts) → IsFit other → take (suc before) (fields other) ≢ take before (fields image) ++ value ∷ []
-  pub place : which ≡ suc before
+  pub position : which ≡ suc before
 
 -- an image is whole, and bytes follow, from `at` on
 pub record GoesOnAt (IsFit : ImageParts → Type 0) (bytes : List ℕ) (at : ℕ) : Type 0 where
@@ -40,7 +40,7 @@ pub record GoesOnAt (IsFit : ImageParts → Type 0) (bytes : List ℕ) (at : ℕ
   pub left : List ℕ
   pub spelled : bytes ≡ spelling image ++ left
   pub more : 0 < length left
-  pub place : at ≡ length (spelling image)
+  pub position : at ≡ length (spelling image)
 
 -- what is answered of bytes, where these are the images that a file may be
 abbrev pub IsImageAnswer : (IsFit : ImageParts → Type 0) → List ℕ → Result ImageParts ImageFault → Type 0

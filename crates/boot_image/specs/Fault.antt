@@ -12,12 +12,12 @@ image_fault_number (Parameter which value) = 53
 image_fault_number Memory = 57
 
 -- the byte of the file that a fault names
-abbrev pub image_fault_place : ImageFault → Option ℕ
-image_fault_place Magic = None
-image_fault_place (Truncated at) = Some at
-image_fault_place (Trailing at) = Some at
-image_fault_place (Parameter which value) = None
-image_fault_place Memory = None
+abbrev pub image_fault_position : ImageFault → Option ℕ
+image_fault_position Magic = None
+image_fault_position (Truncated at) = Some at
+image_fault_position (Trailing at) = Some at
+image_fault_position (Parameter which value) = None
+image_fault_position Memory = None
 
 -- the number of the word that may not stand in its field
 abbrev pub image_fault_which : ImageFault → Option ℕ

@@ -21,8 +21,8 @@ abbrev pub spelling : ImageParts → List ℕ
 spelling i = codes "CVMI" ++ (flat_map word (fields i) ++ (i.source ++ (flat_map word i.words ++ flat_map (flat_map word) i.users)))
 
 -- the most words of a user of so many pages at most
-abbrev pub most_words : ℕ → ℕ
-most_words pages = min 65536 (1024 * pages)
+abbrev pub most_user_words : ℕ → ℕ
+most_user_words pages = min 65536 (1024 * pages)
 
 -- an image of form 1 carries a source alone
 pub record IsBare (i : ImageParts) : Type 0 where
@@ -38,7 +38,7 @@ pub record IsSystem (i : ImageParts) : Type 0 where
   pub least : 16384 ≤ length i.words
   pub most : length i.words ≤ 4194304
   pub users : length i.users ≤ 64
-  pub sizes : All (λ u. length u ≤ most_words i.params.pages) i.users
+  pub sizes : All (λ u. length u ≤ most_user_words i.params.pages) i.users
 
 -- an image of form 2 carries a whole system too, in smaller ranges
 pub record IsOldSystem (i : ImageParts) : Type 0 where
@@ -48,7 +48,7 @@ pub record IsOldSystem (i : ImageParts) : Type 0 where
   pub least : 16384 ≤ length i.words
   pub most : length i.words ≤ 4194304
   pub users : length i.users ≤ 16
-  pub sizes : All (λ u. length u ≤ most_words i.params.pages) i.users
+  pub sizes : All (λ u. length u ≤ most_user_words i.params.pages) i.users
 
 -- an image of form 1 or 3, of a size that a file may have
 pub record HasSpelling (i : ImageParts) : Type 0 where

@@ -10,7 +10,7 @@ use Rattle.boot_image.specs.declared.fault.ImageFault.{ImageFault}
 use Rattle.boot_image.specs.declared.fault.ImageFault.TheVariants.{Magic, Truncated, Trailing, Parameter}
 use Rattle.boot_image.specs.declared.reading.Header.{Header}
 use Rattle.boot_image.specs.Parts.{ImageParts}
-use Rattle.boot_image.specs.Format.{bare_params, most_words, spelling}
+use Rattle.boot_image.specs.Format.{bare_params, most_user_words, spelling}
 
 -- what follows the mark
 unfoldable pub mark_at : List ℕ → Result (List ℕ) ImageFault
@@ -60,7 +60,7 @@ system_at form most_users most_pages bytes = do
   params ← params_at most_pages users.1
   source ← number_at 7 0 1048576 params.1
   words ← number_at 8 16384 4194304 source.1
-  counts ← counts_at [] (most_words params.0.pages) users.0 words.1
+  counts ← counts_at [] (most_user_words params.0.pages) users.0 words.1
   Ok (record { form = form; params = params.0; source_length = source.0; word_count = words.0; parts_at = 36 + 4 * users.0 }, counts)
 
 -- the fields, with the users' numbers of words apart, and what follows them

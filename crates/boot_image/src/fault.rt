@@ -1,7 +1,7 @@
 // The faults of a file.
 
 ghost use Rattle.std.specs.Prelude.{◌≡◌};
-ghost use Rattle.boot_image.specs.Fault.{image_fault_number, image_fault_place, image_fault_which, image_fault_value};
+ghost use Rattle.boot_image.specs.Fault.{image_fault_number, image_fault_position, image_fault_which, image_fault_value};
 ghost use Rattle.boot_image.specs.declared.fault.ImageFault.TheVariants.{Memory};
 
 use std::alloc::AllocError;
@@ -43,7 +43,7 @@ impl ImageFault {
 
     /// The byte of the file that it names, if any.
     pub fn at(&self) -> Option<u64>
-        ensures { result ≡ image_fault_place self.now }
+        ensures { result ≡ image_fault_position self.now }
     {
         match self {
             ImageFault::Magic => None,

@@ -3,7 +3,7 @@
 ghost use Rattle.std.specs.Prelude.{◌≡◌, ◌+◌, ◌*◌, ◌≤◌, ◌<◌, ◌%◌, ◌↔◌, ℕ, [], ◌++◌, List, length, slice_index, map, Result, IfOk, Ok, Err};
 ghost use Rattle.std.specs.List.{concat};
 ghost use Rattle.boot_image.specs.Parts.{ImageParts};
-ghost use Rattle.boot_image.specs.Format.{IsInRange, IsOldInRange, spelling, most_words};
+ghost use Rattle.boot_image.specs.Format.{IsInRange, IsOldInRange, spelling, most_user_words};
 ghost use Rattle.cvm_words.specs.Bytes.{words_of_bytes};
 ghost use Rattle.cvm_words.specs.Reading.{Comes, GivesOkUnless};
 ghost use Rattle.boot_image.specs.declared.fault.ImageFault.TheVariants.{Memory};
@@ -108,7 +108,7 @@ fn image_in(
 #[tactic(auto, unfolding(crate::specs::Reading::header_of))]
 fn fields(bytes: &[u8]) -> Result<(Header, ArrayVec<u32, 64>, &[u8]), ImageFault>
     ensures is { Comes (λ x. (x.0, (x.1.items, x.2.now))) result (header_of bytes.now) }
-    ensures place { IfOk result (λ x. x.0.parts_at ≤ 1000) }
+    ensures position { IfOk result (λ x. x.0.parts_at ≤ 1000) }
 {
     let rest = after_mark(bytes)?;
     let (form, rest) = form(rest)?;
@@ -123,7 +123,7 @@ fn fields(bytes: &[u8]) -> Result<(Header, ArrayVec<u32, 64>, &[u8]), ImageFault
 #[tactic(auto, unfolding(crate::specs::Reading::old_header_of))]
 fn old_fields(bytes: &[u8]) -> Result<(Header, ArrayVec<u32, 64>, &[u8]), ImageFault>
     ensures is { Comes (λ x. (x.0, (x.1.items, x.2.now))) result (old_header_of bytes.now) }
-    ensures place { IfOk result (λ x. x.0.parts_at ≤ 1000) }
+    ensures position { IfOk result (λ x. x.0.parts_at ≤ 1000) }
 {
     let rest = after_mark(bytes)?;
     let (_, rest) = number(rest, 1, 2, 2)?;
@@ -183,7 +183,7 @@ fn form(bytes: &[u8]) -> Result<(u32, &[u8]), ImageFault>
 #[tactic(auto, unfolding(crate::specs::Reading::bare_at))]
 fn bare(bytes: &[u8]) -> Result<(Header, ArrayVec<u32, 64>, &[u8]), ImageFault>
     ensures is { Comes (λ x. (x.0, (x.1.items, x.2.now))) result (bare_at bytes.now) }
-    ensures place { IfOk result (λ x. x.0.parts_at ≤ 1000) }
+    ensures position { IfOk result (λ x. x.0.parts_at ≤ 1000) }
 {
     let (source_length, rest) = number(bytes, 2, 0, 1_048_576)?;
     let params = Params {
@@ -213,7 +213,7 @@ fn system(
     requires users { most_users ≤ 64 }
     requires pages { most_pages ≤ 1024 }
     ensures is { Comes (λ x. (x.0, (x.1.items, x.2.now))) result (system_at form most_users most_pages bytes.now) }
-    ensures place { IfOk result (λ x. x.0.parts_at ≤ 1000) }
+    ensures position { IfOk result (λ x. x.0.parts_at ≤ 1000) }
 {
     let (users, rest) = number(bytes, 2, 0, most_users)?;
     let (params, rest) = params(rest, most_pages)?;
@@ -305,17 +305,17 @@ fn users_are_whole(bytes: &[u8], at: u64, counts: &[u32]) -> Result<(), ImageFau
     ensures { Comes (λ x. tt) result (users_at at counts.now bytes.now) }
 {
     let mut rest = bytes;
-    let mut place = at;
+    let mut position = at;
     for count in counts {
         let size = 4 * u64::from(*count);
-        let (_, others) = part(rest, place, size)?;
+        let (_, others) = part(rest, position, size)?;
         rest = others;
-        place += size;
+        position += size;
     }
     if rest.is_empty() {
         Ok(())
     } else {
-        Err(ImageFault::Trailing { at: place })
+        Err(ImageFault::Trailing { at: position })
     }
 }
 

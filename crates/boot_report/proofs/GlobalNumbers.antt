@@ -4,7 +4,7 @@ use Rattle.std.specs.Prelude.{slice_index}
 use Rattle.c0_tree.specs.declared.tree.Decl.{Decl}
 use Rattle.cvm_outside.specs.Outside.{Output}
 use Rattle.cvm_outside.specs.Script.{Puts, Who}
-use Rattle.cvm_outside.proofs.Putting.{puts_both, puts_first, puts_same}
+use Rattle.cvm_outside.proofs.RowsPut.{puts_both, puts_first, puts_same}
 use Rattle.boot_report.specs.Globals.{global_word_row, globals_rows}
 
 module _ (memory : List ℕ) (first : ℕ) (d : Decl) where

@@ -22,11 +22,11 @@ use Rattle.c0_meaning.specs.TypedState.{StoreTyping, store_typing, types_of, Poi
 use Rattle.c0_meaning.specs.Unit.{IsWellFormed}
 use Rattle.c0_meaning.proofs.OpenTy.{well_formed_loose}
 use Rattle.layer_map.specs.Map.{Map, globals_at}
-use Rattle.cvm_model.specs.Kernel.{part_offset, flat, flats, parts_of}
+use Rattle.cvm_model.specs.Kernel.{part_offset, flat, flats, parts_of_value}
 use Rattle.cvm_model.specs.Stands.{region_at, address_of, HoldsWords}
 use Rattle.cvm_model.specs.Text.{global_row, globals_text}
 use Rattle.boot_report.specs.Globals.{value_end, named_row, globals_rows, GlobalsTell}
-use Rattle.boot_report.specs.Given.{places_of, GlobalRowsTell}
+use Rattle.boot_report.specs.Given.{offsets_of, GlobalRowsTell}
 
 -- the words of types one after another
 type_words : List Shape → List Ty → ℕ
@@ -143,7 +143,7 @@ module _ (tell : GlobalsTell) (structs : List Shape) (opened : AreOpened structs
 
 region_told : GlobalsTell → WordsAreThose → (u : Source) (m : Map) (memory : List ℕ) (s : C0State) (objects : List Ty) (v : Value) → IsWellFormed kernel_primitives (unit_view u) →
     AreParts (shapes (unit_view u)) (store_typing (unit_view u) objects) (types_of (map typed_of (unit_view u).globals)) v → HoldsWords memory (globals_at m) (flat (address_of m s) v) →
-    globals_rows u.globals.items memory (globals_at m) (places_of (unit_view u)) ≡ globals_text (map (λ d. d.name.text) (unit_view u).globals) (parts_of v)
+    globals_rows u.globals.items memory (globals_at m) (offsets_of (unit_view u)) ≡ globals_text (map (λ d. d.name.text) (unit_view u).globals) (parts_of_value v)
 region_told tell those u m memory s objects (group vs) formed are h =
     let opened = are_opened those (unit_view u) (well_formed_loose kernel_primitives (unit_view u) formed) in
     let e : globals_at m ≡ globals_at m + 0 = omega arith in

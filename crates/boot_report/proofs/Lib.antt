@@ -1,9 +1,9 @@
 pub mod Texts
 pub mod MemoryLemmas
 pub mod UserLemmas
-pub mod Spoken
-pub mod Telling
+pub mod ReportScripts
+pub mod UsersTell
 pub mod GlobalRows
 pub mod GlobalNumbers
 pub mod GlobalsGiven
-pub mod SetRow
+pub mod RegisterRow

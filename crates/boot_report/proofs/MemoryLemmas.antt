@@ -8,8 +8,8 @@ use Rattle.mips_machine.specs.Machine.{Held, state_of}
 use Rattle.layer_map.specs.Map.{Map}
 use Rattle.cvm_outside.specs.Outside.{Files, Output, Drive}
 use Rattle.cvm_outside.specs.Script.{Read, Who, Puts, Performs, WritesNoSector}
-use Rattle.cvm_outside.proofs.Follow.{both}
-use Rattle.cvm_outside.proofs.Putting.{performed}
+use Rattle.cvm_outside.proofs.ScriptsFollow.{both}
+use Rattle.cvm_outside.proofs.RowsPut.{performed}
 use Rattle.boot_report.specs.Texts.{texts, memory_row, page_text, page_word}
 use Rattle.boot_report.specs.Resident.{is_resident, shown, page_reads}
 use Rattle.boot_report.specs.Scripts.{page_script}

@@ -2,7 +2,7 @@
 use Rattle.std.proofs.Common.{◌≡◌, ℕ, zero, suc, ◌+◌, ◌-◌, ◌*◌, ◌<◌, List, [], ◌++◌, Option, Some, None, refl, sym, ap, ap₂, ◌∙◌, arith, append-nil, append_assoc}
 use Rattle.cvm_outside.specs.Outside.{Output}
 use Rattle.cvm_outside.specs.Script.{Puts, Who}
-use Rattle.cvm_outside.proofs.Putting.{puts_none, puts_both, puts_first, puts_same}
+use Rattle.cvm_outside.proofs.RowsPut.{puts_none, puts_both, puts_first, puts_same}
 use Rattle.boot_report.specs.Texts.{texts}
 
 -- the texts of no number, and of one more

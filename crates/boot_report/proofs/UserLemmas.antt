@@ -6,9 +6,9 @@ use Rattle.mips_machine.specs.Machine.{Held, state_of}
 use Rattle.layer_map.specs.Map.{Map}
 use Rattle.cvm_outside.specs.Outside.{Outside, Files, Output, Drive}
 use Rattle.cvm_outside.specs.Script.{Printed, Who, Puts, Performs, WritesNoSector}
-use Rattle.cvm_outside.proofs.Follow.{both, first}
-use Rattle.cvm_outside.proofs.Putting.{performed, same_script, quiet_both, quiet_scripts}
-use Rattle.boot_report.specs.Texts.{cpu_of, pages_in, processor_rows}
+use Rattle.cvm_outside.proofs.ScriptsFollow.{both, first}
+use Rattle.cvm_outside.proofs.RowsPut.{performed, same_script, quiet_both, quiet_scripts}
+use Rattle.boot_report.specs.Texts.{shown_cpu, pages_in, processor_rows}
 use Rattle.boot_report.specs.Resident.{page_reads}
 use Rattle.boot_report.specs.declared.fault.ReportFault.{ReportFault}
 use Rattle.boot_report.specs.declared.fault.ReportFault.TheVariants.{Disk, Sink}
@@ -25,20 +25,20 @@ register_in_block memory b (suc k) some few =
 -- the rows of a user's processor are put, and its pages are performed
 module _ (m : Map) (held : Held) (told : Option (List (List ℕ))) (runs : Bool) (u pages most : ℕ) (pages_are : pages ≡ pages_in m held.hardware.memory u) (most_is : most ≡ m.params.pages)
     (shelf : Files) (sink mid resink : Output) (disk redisk : Drive) where
-  user_is : Printed (Some (processor_rows u pages (cpu_of held runs u))) ∷ pages_script m (state_of held []) told ((u - 1) * most) pages ≡ user_script m held told runs u
-  user_is = ap (λ n. Printed (Some (processor_rows u pages (cpu_of held runs u))) ∷ pages_script m (state_of held []) told ((u - 1) * n) pages) most_is
-      ∙ ap (λ n. Printed (Some (processor_rows u n (cpu_of held runs u))) ∷ pages_script m (state_of held []) told ((u - 1) * m.params.pages) n) pages_are
+  user_is : Printed (Some (processor_rows u pages (shown_cpu held runs u))) ∷ pages_script m (state_of held []) told ((u - 1) * most) pages ≡ user_script m held told runs u
+  user_is = ap (λ n. Printed (Some (processor_rows u pages (shown_cpu held runs u))) ∷ pages_script m (state_of held []) told ((u - 1) * n) pages) most_is
+      ∙ ap (λ n. Printed (Some (processor_rows u n (shown_cpu held runs u))) ∷ pages_script m (state_of held []) told ((u - 1) * m.params.pages) n) pages_are
 
-  pub user_performs : (blamed : Option Who) → Puts (processor_rows u pages (cpu_of held runs u)) sink mid None →
+  pub user_performs : (blamed : Option Who) → Puts (processor_rows u pages (shown_cpu held runs u)) sink mid None →
       Performs (pages_script m (state_of held []) told ((u - 1) * most) pages) (record { shelf = shelf; sink = mid; disk = disk }) (record { shelf = shelf; sink = resink; disk = redisk }) blamed →
       Performs (user_script m held told runs u) (record { shelf = shelf; sink = sink; disk = disk }) (record { shelf = shelf; sink = resink; disk = redisk }) blamed
   user_performs blamed puts then = same_script _ _ _ _ blamed user_is
-      (both (Printed (Some (processor_rows u pages (cpu_of held runs u))) ∷ []) _ _ _ _ blamed (performed (Some (processor_rows u pages (cpu_of held runs u))) _ shelf disk sink mid None refl puts) then)
+      (both (Printed (Some (processor_rows u pages (shown_cpu held runs u))) ∷ []) _ _ _ _ blamed (performed (Some (processor_rows u pages (shown_cpu held runs u))) _ shelf disk sink mid None refl puts) then)
 
-  pub user_breaks : (whom : Who) → Puts (processor_rows u pages (cpu_of held runs u)) sink mid (Some whom) →
+  pub user_breaks : (whom : Who) → Puts (processor_rows u pages (shown_cpu held runs u)) sink mid (Some whom) →
       Performs (user_script m held told runs u) (record { shelf = shelf; sink = sink; disk = disk }) (record { shelf = shelf; sink = mid; disk = disk }) (Some whom)
   user_breaks whom puts = same_script _ _ _ _ (Some whom) user_is
-      (first (Printed (Some (processor_rows u pages (cpu_of held runs u))) ∷ []) _ _ _ whom (performed (Some (processor_rows u pages (cpu_of held runs u))) _ shelf disk sink mid (Some whom) refl puts))
+      (first (Printed (Some (processor_rows u pages (shown_cpu held runs u))) ∷ []) _ _ _ whom (performed (Some (processor_rows u pages (shown_cpu held runs u))) _ shelf disk sink mid (Some whom) refl puts))
 
 -- reports write no sector
 pub page_quiet : (m : Map) (s : State) (told : Option (List (List ℕ))) (q p : ℕ) → WritesNoSector (page_script m s told q p)

@@ -11,18 +11,18 @@ use Rattle.c0_meaning.specs.State.{C0State}
 use Rattle.c0_meaning.specs.TypedState.{types_of, IsTypedState}
 use Rattle.c0_meaning.specs.Unit.{IsWellFormed}
 use Rattle.layer_map.specs.Map.{Map, globals_at}
-use Rattle.cvm_model.specs.Kernel.{flat, parts_of}
+use Rattle.cvm_model.specs.Kernel.{flat, parts_of_value}
 use Rattle.cvm_model.specs.Stands.{address_of, HoldsWords}
 use Rattle.cvm_model.specs.Text.{globals_text}
 use Rattle.boot_report.specs.Globals.{globals_rows}
 
 -- how many words behind the first global each of a unit's begins
-abbrev pub places_of : CUnit → List ℕ
-places_of u = offsets (shapes u) (types_of (map typed_of u.globals))
+abbrev pub offsets_of : CUnit → List ℕ
+offsets_of u = offsets (shapes u) (types_of (map typed_of u.globals))
 
 -- in memory that holds the words of a typed state's globals their rows are those of their values
 abbrev pub GlobalRowsTell : Type 0
 GlobalRowsTell = (u : Source) (m : Map) (memory : List ℕ) (s : C0State) → IsWellFormed kernel_primitives (unit_view u) → IsTypedState (unit_view u) s →
     HoldsWords memory (globals_at m) (flat (address_of m s) s.global_values) →
-    globals_rows u.globals.items memory (globals_at m) (places_of (unit_view u))
-    ≡ globals_text (map (λ d. d.name.text) (unit_view u).globals) (parts_of s.global_values)
+    globals_rows u.globals.items memory (globals_at m) (offsets_of (unit_view u))
+    ≡ globals_text (map (λ d. d.name.text) (unit_view u).globals) (parts_of_value s.global_values)

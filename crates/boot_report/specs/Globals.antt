@@ -35,15 +35,15 @@ GlobalsTell = (structs : List Shape) (layout : StoreTyping) (t : Ty) (v : Value)
     named_row name (value_end (Some t) (slice_index (flat address v) 0)) ≡ global_row name v
 
 -- the globals begin inside the memory, each so many words behind the first
-abbrev pub AreInside : Map → (places : List ℕ) → Type 0
-AreInside m places = (i : ℕ) → i < length places → globals_at m + slice_index places i < memory_words m
+abbrev pub GlobalsAreInside : Map → (places : List ℕ) → Type 0
+GlobalsAreInside m places = (i : ℕ) → i < length places → globals_at m + slice_index places i < memory_words m
 
 -- so many of them stand in so many words of memory
 pub record GlobalsStand (m : Map) (words : ℕ) (places : List ℕ) (globals : ℕ) : Type 0 where
   pub many : length places ≡ globals
   pub memory : memory_words m ≤ words
   pub small : memory_words m ≤ 30000000
-  pub inside : AreInside m places
+  pub inside : GlobalsAreInside m places
 
 -- the rows of the globals, each of which begins so many words behind the first
 abbrev pub globals_rows : List Decl → List ℕ → ℕ → List ℕ → List ℕ

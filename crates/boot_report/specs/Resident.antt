@@ -8,17 +8,17 @@ use Rattle.cvm_model.specs.Paged.{paged_of}
 use Rattle.cvm_outside.specs.Script.{Call, Read}
 
 -- the entry of page q of all
-abbrev pub entry_of : Map → State → (q : ℕ) → ℕ
-entry_of m s q = (paged_of m s).entry q
+abbrev pub page_entry : Map → State → (q : ℕ) → ℕ
+page_entry m s q = (paged_of m s).entry q
 
 -- it is in a frame of the memory
 abbrev pub is_resident : Map → State → (q : ℕ) → Bool
-is_resident m s q = entry_of m s q / IS_VALID % 2 == 1 && nat_lt (entry_of m s q / 4096) (memory_frames m)
+is_resident m s q = page_entry m s q / IS_VALID % 2 == 1 && nat_lt (page_entry m s q / 4096) (memory_frames m)
 
 -- its words, by their numbers: those of its frame, or where it is in none of its sector, if that is told
 abbrev pub shown : Map → State → (told : Option (List (List ℕ))) → (q : ℕ) → Option (ℕ → ℕ)
 shown m s told q =
-    if is_resident m s q then Some (λ i. slice_index s.memory (1024 * (entry_of m s q / 4096) + i))
+    if is_resident m s q then Some (λ i. slice_index s.memory (1024 * (page_entry m s q / 4096) + i))
     else option_map (λ ss i. slice_index (slice_index_or ss q []) i) told
 
 -- the script of reading it

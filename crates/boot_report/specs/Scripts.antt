@@ -8,7 +8,7 @@ use Rattle.cvm_outside.specs.Script.{Call, Printed, Who, TheSink, TheDisk, scrip
 use Rattle.boot_report.specs.declared.fault.ReportFault.{ReportFault}
 use Rattle.boot_report.specs.declared.fault.ReportFault.TheVariants.{Disk, Sink}
 use Rattle.boot_report.specs.Resident.{shown, page_reads}
-use Rattle.boot_report.specs.Texts.{page_text, pages_in, cpu_of, processor_rows}
+use Rattle.boot_report.specs.Texts.{page_text, pages_in, shown_cpu, processor_rows}
 
 -- whom a fault blames
 abbrev pub of_report : ReportFault → Option Who
@@ -26,7 +26,7 @@ pages_script m s told q pages = scripts (λ p. page_script m s told (q + p) p) p
 -- user u, who runs or not: the rows of its processor, and its pages
 abbrev pub user_script : Map → Held → (told : Option (List (List ℕ))) → (runs : Bool) → (u : ℕ) → List Call
 user_script m held told runs u =
-    Printed (Some (processor_rows u (pages_in m held.hardware.memory u) (cpu_of held runs u)))
+    Printed (Some (processor_rows u (pages_in m held.hardware.memory u) (shown_cpu held runs u)))
     ∷ pages_script m (state_of held []) told ((u - 1) * m.params.pages) (pages_in m held.hardware.memory u)
 
 -- users 1 to n, of whom one may run

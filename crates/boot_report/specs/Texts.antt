@@ -51,8 +51,8 @@ abbrev pub PageShows : Held → (read : List ℕ) → (shown : Option (ℕ → �
 PageShows held read shown o = IfSome shown (λ word. (i : ℕ) → page_word held read o i ≡ word i)
 
 -- a user's processor: that of the machine, if it runs the user, and else the control block's
-abbrev pub cpu_of : Held → Bool → ℕ → Cpu
-cpu_of held runs u = if runs then held.hardware.cpu else block_cpu held.hardware.memory u
+abbrev pub shown_cpu : Held → Bool → ℕ → Cpu
+shown_cpu held runs u = if runs then held.hardware.cpu else block_cpu held.hardware.memory u
 
 -- a user's size in pages, as its control block has it, up to the most
 abbrev pub pages_in : Map → List ℕ → ℕ → ℕ

@@ -1,5 +1,5 @@
 -- What the machine shows of the users is what the abstract machine has of them, where it stands for its state.
-use Rattle.std.specs.Prelude.{◌≡◌, ℕ, ◌+◌, ◌-◌, ◌*◌, ◌/◌, ◌%◌, ◌<◌, ◌≤◌, ◌==◌, true, false, Option, Some, List, length, slice_index}
+use Rattle.std.specs.Prelude.{◌≡◌, ℕ, ◌+◌, ◌-◌, ◌*◌, ◌%◌, ◌<◌, ◌≤◌, ◌==◌, true, false, List, length, slice_index}
 use Rattle.mips_table.specs.Device.{Environment}
 use Rattle.mips_machine.specs.Machine.{Held, state_of}
 use Rattle.mips_table.specs.Machine.{State}
@@ -11,11 +11,8 @@ use Rattle.cvm_model.specs.Cvm.{Status}
 use Rattle.cvm_model.specs.Paged.{paged_of}
 use Rattle.cvm_model.specs.Stands.{Site, RunningRelation, IsUser, runs_user}
 use Rattle.cvm_model.specs.Text.{log_text}
-use Rattle.boot_report.specs.Texts.{log_rows, cpu_of, pages_in, EntriesFit}
-
--- P of the pages, where the sectors are told and valid entries of page tables name frames of the memory
-abbrev pub WherePaged : (told : Option (List (List ℕ))) → Held → Map → (Paged → Type 0) → Type 0
-WherePaged told held m P = (ss : List (List ℕ)) → told ≡ Some ss → EntriesFit m (state_of held ss) → P (paged_of m (state_of held ss))
+use Rattle.boot_report.specs.Resident.{page_of_word}
+use Rattle.boot_report.specs.Texts.{log_rows, shown_cpu, pages_in, EntriesFit}
 
 -- the user whom the machine runs has this number, and where it runs none the number is 0
 pub record IsRunning (held : Held) (ss : List (List ℕ)) (c : Core) (running : ℕ) : Type 0 where
@@ -34,7 +31,7 @@ RowsTell = (x : Environment) (y : Site) (held : Held) (ss : List (List ℕ)) (st
 
 -- the processor of user u, where one of all may run, its size in pages, and the words of these
 pub record UserIsTold (m : Map) (held : Held) (ss : List (List ℕ)) (c : Core) (running u : ℕ) : Type 0 where
-  pub cpu : cpu_of held (u == running) u ≡ (user_of c.users u).cpu
+  pub cpu : shown_cpu held (u == running) u ≡ (user_of c.users u).cpu
   pub registers : length (user_of c.users u).cpu.regs ≡ 32
   pub pages : pages_in m held.hardware.memory u ≡ pages_of (user_of c.users u)
   pub most : pages_of (user_of c.users u) ≤ m.params.pages
@@ -49,7 +46,7 @@ UserTells = (x : Environment) (y : Site) (held : Held) (ss : List (List ℕ)) (s
 
 -- word k of user u, as the machine shows it by pages
 abbrev pub user_word : Map → Paged → (u k : ℕ) → ℕ
-user_word m a u k = shown_word a ((u - 1) * m.params.pages + k / 1024) (k % 1024)
+user_word m a u k = shown_word a (page_of_word m u k) (k % 1024)
 
 -- the words of user u
 pub record WordsAreTold (m : Map) (s : State) (u : ℕ) (words : List ℕ) : Type 0 where

@@ -2,7 +2,7 @@
 ghost use Rattle.std.specs.Prelude.{◌≡◌, ◌+◌, ◌-◌, ◌*◌, ◌<◌, ◌≤◌, ◌==◌};
 ghost use Rattle.std.specs.Prelude.{length, min, slice_index};
 ghost use Rattle.layer_map.specs.Map.{block_at};
-ghost use Rattle.boot_report.specs.Texts.{cpu_of, register_rows, processor_rows, log_rows};
+ghost use Rattle.boot_report.specs.Texts.{shown_cpu, register_rows, processor_rows, log_rows};
 ghost use Rattle.boot_report.specs.Scripts.{of_report, user_script, users_script};
 ghost use Rattle.cvm_outside.specs.Script.{Prints, Makes};
 ghost use Rattle.boot_report.specs.Stand.{BlockReadable, CanReadUser, CanReadUsers};
@@ -26,7 +26,7 @@ fn block_word(machine: &Machine, user: u32, number: u32) -> u32
 // A user's pc.
 fn pc_of(machine: &Machine, runs: bool, user: u32) -> u32
     requires user { BlockReadable user (length machine.now.hardware.memory) }
-    ensures { result ≡ (cpu_of machine.now runs user).pc }
+    ensures { result ≡ (shown_cpu machine.now runs user).pc }
 {
     if runs {
         return machine.pc();
@@ -39,7 +39,7 @@ fn register_of(machine: &Machine, runs: bool, user: u32, register: u32) -> u32
     requires user { BlockReadable user (length machine.now.hardware.memory) }
     requires some { 1 ≤ register }
     requires few { register ≤ 31 }
-    ensures { result ≡ slice_index (cpu_of machine.now runs user).regs register }
+    ensures { result ≡ slice_index (shown_cpu machine.now runs user).regs register }
 {
     if runs {
         return machine.reg(register);
@@ -50,7 +50,7 @@ fn register_of(machine: &Machine, runs: bool, user: u32, register: u32) -> u32
 // A user's hi.
 fn hi_of(machine: &Machine, runs: bool, user: u32) -> u32
     requires user { BlockReadable user (length machine.now.hardware.memory) }
-    ensures { result ≡ (cpu_of machine.now runs user).hi }
+    ensures { result ≡ (shown_cpu machine.now runs user).hi }
 {
     if runs {
         return machine.hi();
@@ -61,7 +61,7 @@ fn hi_of(machine: &Machine, runs: bool, user: u32) -> u32
 // A user's lo.
 fn lo_of(machine: &Machine, runs: bool, user: u32) -> u32
     requires user { BlockReadable user (length machine.now.hardware.memory) }
-    ensures { result ≡ (cpu_of machine.now runs user).lo }
+    ensures { result ≡ (shown_cpu machine.now runs user).lo }
 {
     if runs {
         return machine.lo();
@@ -77,7 +77,7 @@ fn put_registers<O: Sink>(
     out: &mut O,
 ) -> Result<(), SinkFault>
     requires user { BlockReadable user (length machine.now.hardware.memory) }
-    ensures { Prints O.Sink out.old out.new (register_rows (cpu_of machine.now runs user) 31) result }
+    ensures { Prints O.Sink out.old out.new (register_rows (shown_cpu machine.now runs user) 31) result }
 {
     for i in 0..31u32 {
         put_register(i + 1, register_of(machine, runs, user, i + 1), out)?;
@@ -94,7 +94,7 @@ fn put_processor<O: Sink>(
     out: &mut O,
 ) -> Result<(), SinkFault>
     requires user { BlockReadable user (length machine.now.hardware.memory) }
-    ensures { Prints O.Sink out.old out.new (processor_rows user pages (cpu_of machine.now runs user)) result }
+    ensures { Prints O.Sink out.old out.new (processor_rows user pages (shown_cpu machine.now runs user)) result }
 {
     put_user(user, pages, pc_of(machine, runs, user), out)?;
     put_registers(machine, runs, user, out)?;

@@ -9,30 +9,30 @@ use Rattle.mips_table.specs.Machine.{State}
 use Rattle.mips_table.specs.Fits.{NamesSector}
 use Rattle.mips_table.specs.Code.{Sound}
 use Rattle.mips_table.specs.Simulation.{MemoryHolds, DiskServes, MachineSimulates}
-use Rattle.masm.specs.Standing.{placed, BlockStands}
-use Rattle.boot_rom.specs.Alone.{word_of, lone_program, lone_world, BlockInMemory, BlocksAreMade}
+use Rattle.masm.specs.Standing.{only_block_at, BlockStands}
+use Rattle.boot_rom.specs.Alone.{instruction_word, lone_program, lone_world, BlockInMemory, BlocksAreMade}
 
 -- the word of an instruction of a placed block
-placed_word : (n : ℕ) (is : List Inst) (k : ℕ) (i : Inst) → placed n is k ≡ Some i → n ≤ k → slice_index (map encoding is) (k - n) ≡ encoding i
+placed_word : (n : ℕ) (is : List Inst) (k : ℕ) (i : Inst) → only_block_at n is k ≡ Some i → n ≤ k → slice_index (map encoding is) (k - n) ≡ encoding i
 placed_word n [] k i e le = absurd (cc)
 placed_word n (j ∷ is) k i e le = ⊎_elim
-    (λ z. let here : Some j ≡ Some i = sym (cond-true (k == n) (Some j) (placed (n + 1) is k) (eq-eqb k n z)) ∙ e in
+    (λ z. let here : Some j ≡ Some i = sym (cond-true (k == n) (Some j) (only_block_at (n + 1) is k) (eq-eqb k n z)) ∙ e in
     let same : j ≡ i = cc in
     let at : k - n ≡ 0 = omega arith in
     ap (slice_index (map encoding (j ∷ is))) at ∙ ap encoding same)
-    (λ ne. let there : placed (n + 1) is k ≡ Some i = sym (cond-false (k == n) (Some j) (placed (n + 1) is k) (ne_eqb k n ne)) ∙ e in
+    (λ ne. let there : only_block_at (n + 1) is k ≡ Some i = sym (cond-false (k == n) (Some j) (only_block_at (n + 1) is k) (ne_eqb k n ne)) ∙ e in
     let at : k - n ≡ suc (k - (n + 1)) = omega arith in
     ap (slice_index (map encoding (j ∷ is))) at ∙ placed_word (n + 1) is k i there (omega arith))
     (cases_eq k n)
 
 -- no instruction stands before the block or behind it
-pub not_placed : (n : ℕ) (is : List Inst) (k : ℕ) → (k < n) ⊎ (n + length is ≤ k) → placed n is k ≡ None
+pub not_placed : (n : ℕ) (is : List Inst) (k : ℕ) → (k < n) ⊎ (n + length is ≤ k) → only_block_at n is k ≡ None
 not_placed n [] k o = refl
 not_placed n (i ∷ is) k o =
-    cond-false (k == n) (Some i) (placed (n + 1) is k) (ne_eqb k n (⊎_elim (λ h. omega arith) (λ h. omega arith) o))
+    cond-false (k == n) (Some i) (only_block_at (n + 1) is k) (ne_eqb k n (⊎_elim (λ h. omega arith) (λ h. omega arith) o))
     ∙ not_placed (n + 1) is k (⊎_elim (λ h. inl (omega arith)) (λ h. inr (omega arith)) o)
 
-kept_by : (o : Option Inst) (v : ℕ) → word_of o ≡ Some v → (i : Inst) × (o ≡ Some i) × (encoding i ≡ v)
+kept_by : (o : Option Inst) (v : ℕ) → instruction_word o ≡ Some v → (i : Inst) × (o ≡ Some i) × (encoding i ≡ v)
 kept_by None v e = absurd (cc)
 kept_by (Some i) v e = (i, refl, cc)
 
@@ -42,14 +42,14 @@ module _ (stands : (n : ℕ) (is : List Inst) → BlockStands n is) (x : Environ
     small = at.small;
     range = (stands n is).range at.range;
     inside = λ k i e. let b = (stands n is).inside k i e in let top = b.1 in let end = at.inside in omega arith;
-    keeps = λ k i e. ap word_of e;
+    keeps = λ k i e. ap instruction_word e;
   }
 
   pub holds : MemoryHolds (lone_world x s count n is) s.memory
   holds = record {
     size = refl;
     kept = λ k v e.
-        let h = kept_by (placed n is k) v e in
+        let h = kept_by (only_block_at n is k) v e in
         let b = (stands n is).inside k h.0 h.1 in
         let low : n ≤ k = b.0 in
         let top : k < n + length is = b.1 in

@@ -5,8 +5,8 @@ use Rattle.cvm_outside.specs.Outside.{Outside}
 use Rattle.cvm_outside.specs.declared.sink.Sink as sink_of
 use Rattle.cvm_outside.specs.declared.sectors.Sectors as sectors_of
 use Rattle.cvm_outside.specs.Script.{Call, Who, Performs, done}
-use Rattle.cvm_outside.proofs.Follow.{both, first}
-use Rattle.cvm_outside.proofs.Putting.{same_script}
+use Rattle.cvm_outside.proofs.ScriptsFollow.{both, first}
+use Rattle.cvm_outside.proofs.RowsPut.{same_script}
 use Rattle.mips_table.specs.Device as device
 use Rattle.mips_table.specs.Machine.{State, run}
 use Rattle.mips_table.specs.Turns.{complete, lines_of_turn, is_end, end_within, TurnLaws}
@@ -37,16 +37,16 @@ use Rattle.boot_run.specs.declared.whole.RunEnd.TheVariants as ends
 use Rattle.boot_run.specs.Closing.{report_by, closing_script}
 use Rattle.boot_run.specs.LoadEnds.{Kept}
 use Rattle.boot_run.specs.Pieces.{Bootable, FirstAt, GoRuns, end_of_fault}
-use Rattle.boot_run.specs.RunCalls.{run_at, begin_script, fault_script, report_script, turns_script, TellsFrom, ReportCalls, GoCalls, of_end, end_by, EndsBy, CloseCalls, RestCalls}
+use Rattle.boot_run.specs.RunCalls.{run_at, begin_script, fault_script, report_script, turns_script, TellsFrom, ReportCalls, GoCalls, of_end, end_by, RunEndsBy, CloseCalls, RestCalls}
 use Rattle.boot_run.specs.RunScript.{rest_script}
-use Rattle.boot_run.specs.Shown.{has_faulted}
-use Rattle.boot_run.specs.TurnCalls.{ended_of, around, Ready, KeepsLoad}
+use Rattle.boot_run.specs.Shown.{has_faulted, ended_of}
+use Rattle.boot_run.specs.TurnCalls.{run_around, ReadyAt, KeepsLoad}
 use Rattle.boot_run.proofs.ClosingCalls.{faulted_script}
 use Rattle.boot_run.proofs.GoScripts.{no_sooner, on_there, goes_before, past_tells}
-use Rattle.boot_run.proofs.Looping.{machines}
+use Rattle.boot_run.proofs.TurnLoop.{machines}
 use Rattle.boot_run.proofs.ReadingCalls.{of_run_too}
 use Rattle.boot_run.proofs.ScriptParts.{at}
-use Rattle.boot_run.proofs.Scripting.{goes_none}
+use Rattle.boot_run.proofs.ScriptsOfTurns.{goes_none}
 
 -- how a run is to end that has
 faulted_due : (st : Status) → has_faulted (ended_of st) ≡ true → ends.KernelFaulted ≡ end_by true st
@@ -186,16 +186,16 @@ module _ (counts : TurnLaws) (x : device.Environment) (y : System) (s : State) (
         by (Some whom) none made = first (turns_script (run_at x y s v turns steps) p k t (end_within x s turns steps - t)) (tail (is_end x s turns (end_within x s turns steps)) rep) old new whom made
 
 -- where it was out of steps its run has no end within them
-pub late_none : {L : Type 0} (count : ℕ) (r new : Kept L) (turns budget left : ℕ) (told retold : Option (List (List ℕ))) (f : RunFault) → GoRuns count r turns (around r told budget) (around new retold left) (Err f) → of_run f ≡ None →
+pub late_none : {L : Type 0} (count : ℕ) (r new : Kept L) (turns budget left : ℕ) (told retold : Option (List (List ℕ))) (f : RunFault) → GoRuns count r turns (run_around r told budget) (run_around new retold left) (Err f) → of_run f ≡ None →
     (y : System) (s : State) (late held : ℕ) (old : List (List ℕ)) (k t wanted steps : ℕ) (c : Cvm) → Bootable r.boot r.machine.rows count y s late held old → FirstAt (outside_of r.machine.rows count) s k t → 1 ≤ wanted → k + turns ≡ wanted → budget + t ≡ steps →
-    Ready (outside_of r.machine.rows count) y s r.view k t c (around r told budget) → is_end (outside_of r.machine.rows count) s wanted (end_within (outside_of r.machine.rows count) s wanted steps) ≡ false
+    ReadyAt (outside_of r.machine.rows count) y s r.view k t c (run_around r told budget) → is_end (outside_of r.machine.rows count) s wanted (end_within (outside_of r.machine.rows count) s wanted steps) ≡ false
 late_none count r new turns budget left told retold StepLimit goes e y s late held old k t wanted steps c p starts some more sum ready = (goes y s late held old k t wanted steps c p starts some more sum ready).none
 late_none count r new turns budget left told retold Disk goes e y s late held old k t wanted steps c p starts some more sum ready = absurd (let h = e in cc)
 late_none count r new turns budget left told retold Sink goes e y s late held old k t wanted steps c p starts some more sum ready = absurd (let h = e in cc)
 
 -- THE LOOP FAILED
 pub rest_fails : {L O D T : Type 0} (text : sink_of.Ghosts O) (told : sectors_of.Ghosts D) (r new : Kept L) (o o1 : O) (d d1 : D) (turns budget left : ℕ) (law : (u : CUnit) → MachinesRun (IsTypedState u)) (counts : TurnLaws) (f : RunFault) →
-    GoRuns (told.size d) r turns (around r (told.sectors d) budget) (around new (told.sectors d1) left) (Err f) → GoCalls {T = T} text told r turns budget (o, d) (o1, d1) (Err f) → RestCalls text told r turns budget (o, d) (o1, d1) (end_of_fault f)
+    GoRuns (told.size d) r turns (run_around r (told.sectors d) budget) (run_around new (told.sectors d1) left) (Err f) → GoCalls {T = T} text told r turns budget (o, d) (o1, d1) (Err f) → RestCalls text told r turns budget (o, d) (o1, d1) (end_of_fault f)
 rest_fails text told r new o o1 d d1 turns budget left law counts f goes calls = record {
   exact = λ y s late held old k t wanted steps c p starts some more sum ready running past is.
       let x = outside_of r.machine.rows (told.size d) in
@@ -221,12 +221,12 @@ rest_fails text told r new o o1 d d1 turns budget left law counts f goes calls =
 abbrev ClosesAt : {L O D : Type 0} → sink_of.Ghosts O → sectors_of.Ghosts D → Kept L → Booted → Rows → View → (size : ℕ) → O → D → O → D → RunEnd → Type 0
 ClosesAt text told r b rows v size o d o1 d1 end =
     (budget : ℕ) (y : System) (s : State) (late held : ℕ) (k t : ℕ) (c : Cvm) → y.boot ≡ boot_of b → StartsFrom (IsTypedState (unit_view b.unit)) (outside_of rows size) y s late held →
-    Ready (outside_of rows size) y s v (suc k) t c (around r (told.sectors d) budget) → (turns steps : ℕ) (p : Past) → TellsFrom (run_at (outside_of rows size) y s v turns steps) p t t →
-    EndsBy text told (o, d) (o1, d1) (report_script v (run_at (outside_of rows size) y s v turns steps) p t c.status) (end_by true c.status) end
+    ReadyAt (outside_of rows size) y s v (suc k) t c (run_around r (told.sectors d) budget) → (turns steps : ℕ) (p : Past) → TellsFrom (run_at (outside_of rows size) y s v turns steps) p t t →
+    RunEndsBy text told (o, d) (o1, d1) (report_script v (run_at (outside_of rows size) y s v turns steps) p t c.status) (end_by true c.status) end
 
 -- OR CAME TO ITS END, and the run is closed
 pub rest_closes : {L O D : Type 0} (text : sink_of.Ghosts O) (told : sectors_of.Ghosts D) (r mid : Kept L) (o o1 o2 : O) (d d1 d2 : D) (turns budget left : ℕ) (law : (u : CUnit) → MachinesRun (IsTypedState u)) (counts : TurnLaws) (e : RunEnd) → KeepsLoad r mid → told.size d1 ≡ told.size d →
-    GoRuns (told.size d) r turns (around r (told.sectors d) budget) (around mid (told.sectors d1) left) (Ok tt) → GoCalls {T = Unit {0}} text told r turns budget (o, d) (o1, d1) (Ok tt) → CloseCalls text told mid (o1, d1) (o2, d2) e →
+    GoRuns (told.size d) r turns (run_around r (told.sectors d) budget) (run_around mid (told.sectors d1) left) (Ok tt) → GoCalls {T = Unit {0}} text told r turns budget (o, d) (o1, d1) (Ok tt) → CloseCalls text told mid (o1, d1) (o2, d2) e →
     RestCalls text told r turns budget (o, d) (o2, d2) e
 rest_closes text told r mid o o1 o2 d d1 d2 turns budget left law counts e kept size goes calls closes = record {
   exact = λ y s late held old k t wanted steps c p starts some more sum ready running past is.

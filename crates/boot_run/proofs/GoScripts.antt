@@ -6,8 +6,8 @@ use Rattle.cvm_outside.specs.Outside.{Outside, Files}
 use Rattle.cvm_outside.specs.declared.sink.Sink as sink_of
 use Rattle.cvm_outside.specs.declared.sectors.Sectors as sectors_of
 use Rattle.cvm_outside.specs.Script.{Call, Who, TheSink, TheDisk, Performs, done}
-use Rattle.cvm_outside.proofs.Follow.{both, first}
-use Rattle.cvm_outside.proofs.Putting.{same_script, scripts-none}
+use Rattle.cvm_outside.proofs.ScriptsFollow.{both, first}
+use Rattle.cvm_outside.proofs.RowsPut.{same_script, scripts-none}
 use Rattle.mips_table.specs.Device as device
 use Rattle.mips_table.specs.Machine.{State, run}
 use Rattle.mips_table.specs.Turns.{complete, lines_of_turn, is_end, end_within, TurnLaws}
@@ -34,12 +34,13 @@ use Rattle.boot_turns.proofs.TurnScripts.{steps_join}
 use Rattle.boot_run.specs.LoadEnds.{Kept}
 use Rattle.boot_run.specs.Pieces.{Bootable, FirstAt, GoRuns}
 use Rattle.boot_run.specs.RunCalls.{run_at, begin_script, fault_script, turns_script, InTurns, TellsFrom, TurnsCall, GoCalls}
-use Rattle.boot_run.specs.TurnCalls.{ended_of, Around, around, Ready, Broken, TurnsEnd, TurnsRun, KeepsLoad}
+use Rattle.boot_run.specs.TurnCalls.{Around, run_around, ReadyAt, Broken, TurnsEnd, TurnsRun, KeepsLoad}
 use Rattle.boot_run.proofs.TurnToTurn.{Going, Goes, came_on, goes_on, goes_on_to, end_most, no_end, not_before}
-use Rattle.boot_run.proofs.Looping.{KeepsGoing, machines, turns_end}
+use Rattle.boot_run.proofs.TurnLoop.{KeepsGoing, machines, turns_end}
 use Rattle.boot_run.proofs.InTurns.{in_turns}
 use Rattle.boot_run.proofs.ScriptParts.{at}
-use Rattle.boot_run.proofs.Scripting.{goes_none}
+use Rattle.boot_run.proofs.ScriptsOfTurns.{goes_none}
+use Rattle.boot_run.specs.Shown.{ended_of}
 
 -- BEFORE ITS END a run's machine is on
 is_false : (a : Bool) (o : Option ℕ) → (a || not (not (is_some o))) ≡ false → o ≡ None
@@ -117,7 +118,7 @@ made_join r p k (suc i) j t u n m all there sum none quiet =
 abbrev pub KeepsMade : {L O D : Type 0} → sink_of.Ghosts O → sectors_of.Ghosts D → Kept L → O → D → O → D → (budget i now : ℕ) → Type 0
 KeepsMade text told r o d o1 d1 budget i now =
     (y : System) (s : State) (late held : ℕ) (old : List (List ℕ)) (k t steps : ℕ) (c : Cvm) → Bootable r.boot r.machine.rows (told.size d) y s late held old → FirstAt (outside_of r.machine.rows (told.size d)) s k t →
-    budget + t ≡ steps → Ready (outside_of r.machine.rows (told.size d)) y s r.view k t c (around r (told.sectors d) budget) → c.status ≡ Running → (turns : ℕ) (p : Past) →
+    budget + t ≡ steps → ReadyAt (outside_of r.machine.rows (told.size d)) y s r.view k t c (run_around r (told.sectors d) budget) → c.status ≡ Running → (turns : ℕ) (p : Past) →
     TellsFrom (run_at (outside_of r.machine.rows (told.size d)) y s r.view turns steps) p t now → (shelf : Files) →
     Performs (made_script (run_at (outside_of r.machine.rows (told.size d)) y s r.view turns steps) p k i t (now - t)) (at text told shelf o d) (at text told shelf o1 d1) None
 
@@ -125,7 +126,7 @@ KeepsMade text told r o d o1 d1 budget i now =
 abbrev TurnsAt : {L O D : Type 0} → sink_of.Ghosts O → sectors_of.Ghosts D → Kept L → Booted → Rows → View → (size budget : ℕ) → O → D → O → D → (n : ℕ) → Option Who → Type 0
 TurnsAt text told r b rows v size budget o d o1 d1 n blamed =
     (u : CUnit) (y : System) (s : State) (late held : ℕ) (k t : ℕ) (c : Cvm) → y.boot ≡ boot_of b → StartsFrom (IsTypedState u) (outside_of rows size) y s late held →
-    Ready (outside_of rows size) y s v k t c (around r (told.sectors d) budget) → c.status ≡ Running → (turns steps : ℕ) (p : Past) →
+    ReadyAt (outside_of rows size) y s v k t c (run_around r (told.sectors d) budget) → c.status ≡ Running → (turns steps : ℕ) (p : Past) →
     TellsFrom (run_at (outside_of rows size) y s v turns steps) p t (t + n) → (shelf : Files) →
     InTurns (run_at (outside_of rows size) y s v turns steps) p k t n (at text told shelf o d) (at text told shelf o1 d1) blamed
 
@@ -135,7 +136,7 @@ made_first text told r o d budget (suc i) now none y s late held old k t steps c
 
 -- a run of which turns were made, and its next call
 module _ {L O D : Type 0} (text : sink_of.Ghosts O) (told : sectors_of.Ghosts D) (r now : Kept L) (o o1 o2 : O) (d d1 d2 : D) (budget left i : ℕ) (kept : KeepsLoad r now) (size : told.size d1 ≡ told.size d)
-    (going : KeepsGoing (told.size d) r (around r (told.sectors d) budget) i (around now (told.sectors d1) left)) (so : KeepsMade text told r o d o1 d1 budget i now.machine.time) where
+    (going : KeepsGoing (told.size d) r (run_around r (told.sectors d) budget) i (run_around now (told.sectors d1) left)) (so : KeepsMade text told r o d o1 d1 budget i now.machine.time) where
   abbrev x : device.Environment
   x = outside_of r.machine.rows (told.size d)
 
@@ -147,8 +148,8 @@ module _ {L O D : Type 0} (text : sink_of.Ghosts O) (told : sectors_of.Ghosts D)
       (subst (λ (b : Booted). TurnsAt text told now b now.machine.rows now.view (told.size d1) left o1 d1 o2 d2 n blamed) kept.boot_is h)))
 
   module _ (law : (u : CUnit) → MachinesRun (IsTypedState u)) (y : System) (s : State) (late held : ℕ) (old : List (List ℕ)) (k t steps : ℕ) (c : Cvm) (p : Bootable r.boot r.machine.rows (told.size d) y s late held old) (starts : FirstAt x s k t) (sum : budget + t ≡ steps)
-      (ready : Ready x y s r.view k t c (around r (told.sectors d) budget)) (running : c.status ≡ Running) where
-    abbrev g : Goes x y s r.view steps (k + i) (around now (told.sectors d1) left)
+      (ready : ReadyAt x y s r.view k t c (run_around r (told.sectors d) budget)) (running : c.status ≡ Running) where
+    abbrev g : Goes x y s r.view steps (k + i) (run_around now (told.sectors d1) left)
     g = going y s late held old k t steps c p starts sum ready
 
     -- the run stands no sooner than it was found
@@ -183,7 +184,7 @@ module _ {L O D : Type 0} (text : sink_of.Ghosts O) (told : sectors_of.Ghosts D)
         let stands = (going y s late held old k t steps c p starts sum ready).2.ready in
         let time : now.machine.time ≡ u = stands.steps in
         let low = later in
-        let goes : past_c.status ≡ Running = goes_on x y s r.view (k + i) u past_c (around now (told.sectors d1) left) stands on in
+        let goes : past_c.status ≡ Running = goes_on x y s r.view (k + i) u past_c (run_around now (told.sectors d1) left) stands on in
         let is : cvm_at rn past u ≡ past_c = m.same (complete x s u) (cvm_at rn past u) past_c (tells.turns u low (omega (arith, there, time))) (subst (λ q. IsCvm y (lines_of_turn x s) q past_c) (sym stands.stood.all) stands.stood.cvm) in
         let none : (off : Option ℕ) → fault_script r.view rn past u off (cvm_at rn past u).status ≡ [] = λ off. goes_none r.view rn past u off (cvm_at rn past u).status (ap (λ (q : Cvm). q.status) is ∙ goes) in
         same_script (made_script rn past k i t (now.machine.time - t) ++ turns_script rn past (k + i) u n) (turns_script rn past k t all) (at text told shelf o d) (at text told shelf o2 d2) blamed
@@ -269,9 +270,9 @@ module _ (counts : TurnLaws) (x : device.Environment) (y : System) (s : State) (
 
 -- THE LOOP FAILED
 module _ {L O D : Type 0} (text : sink_of.Ghosts O) (told : sectors_of.Ghosts D) (r now new : Kept L) (o o1 o2 : O) (d d1 d2 : D) (budget middle left i turns : ℕ) (kept : KeepsLoad r now) (size : told.size d1 ≡ told.size d) (law : (u : CUnit) → MachinesRun (IsTypedState u)) (counts : TurnLaws)
-    (going : KeepsGoing (told.size d) r (around r (told.sectors d) budget) i (around now (told.sectors d1) middle)) (so : KeepsMade text told r o d o1 d1 budget i now.machine.time)
+    (going : KeepsGoing (told.size d) r (run_around r (told.sectors d) budget) i (run_around now (told.sectors d1) middle)) (so : KeepsMade text told r o d o1 d1 budget i now.machine.time)
     (some_made : SomeMake {T = Unit {0}} text told (o, d) (o1, d1) (Ok tt)) (fine : now.fault ≡ None) where
-  pub go_broke : {R T : Type 0} (f : RunFault) (most : ℕ) → i + most ≤ turns → now.ended ≡ None → TurnsRun (told.size d1) now most (around now (told.sectors d1) middle) (around new (told.sectors d2) left) (Err f) →
+  pub go_broke : {R T : Type 0} (f : RunFault) (most : ℕ) → i + most ≤ turns → now.ended ≡ None → TurnsRun (told.size d1) now most (run_around now (told.sectors d1) middle) (run_around new (told.sectors d2) left) (Err f) →
       (n : ℕ) → new.machine.time ≡ now.machine.time + n → TurnsCall {T = R} text told now middle (o1, d1) (o2, d2) n (Err f) → GoCalls {T = T} text told r turns budget (o, d) (o2, d2) (Err f)
   go_broke {R} {T} f most room on runs n time calls = record {
     exact = λ y s late held old k t wanted steps c p starts some more sum ready running past is shelf.
@@ -280,9 +281,9 @@ module _ {L O D : Type 0} (text : sink_of.Ghosts O) (told : sectors_of.Ghosts D)
         let u : ℕ = g.0 in
         let stands : now.machine.time ≡ u = g.2.ready.steps in
         let low = later text told r now o o1 o2 d d1 d2 budget middle i kept size going so law y s late held old k t steps c p starts sum ready running in
-        let ends = fail_end counts x y s r.view wanted steps (k + i) u g.1 most (around now (told.sectors d1) middle) (around new (told.sectors d2) left) (omega (arith, room, more)) g.2 f
-        (turns_end (told.size d) (told.size d1) r now kept size most (around now (told.sectors d1) middle) (around new (told.sectors d2) left) (Err f) runs y s late held old (k + i) u g.1 p g.2.ready
-        (goes_on x y s r.view (k + i) u g.1 (around now (told.sectors d1) middle) g.2.ready on)) in
+        let ends = fail_end counts x y s r.view wanted steps (k + i) u g.1 most (run_around now (told.sectors d1) middle) (run_around new (told.sectors d2) left) (omega (arith, room, more)) g.2 f
+        (turns_end (told.size d) (told.size d1) r now kept size most (run_around now (told.sectors d1) middle) (run_around new (told.sectors d2) left) (Err f) runs y s late held old (k + i) u g.1 p g.2.ready
+        (goes_on x y s r.view (k + i) u g.1 (run_around now (told.sectors d1) middle) g.2.ready on)) in
         let within : new.machine.time ≤ end_within x s wanted steps = ends.1 in
         let all : t + (new.machine.time - t) ≡ now.machine.time + n = omega (arith, time, stands, low) in
         let made = next_made text told r now o o1 o2 d d1 d2 budget middle i kept size going so law y s late held old k t steps c p starts sum ready running on n (of_run f) calls.exact wanted past (new.machine.time - t) all
@@ -308,7 +309,7 @@ module _ {L O D : Type 0} (text : sink_of.Ghosts O) (told : sectors_of.Ghosts D)
 -- OR IT CAME TO ITS END
 module _ {L O D : Type 0} (text : sink_of.Ghosts O) (told : sectors_of.Ghosts D) (r new : Kept L) (o o1 : O) (d d1 : D) (budget left i turns : ℕ) (law : (u : CUnit) → MachinesRun (IsTypedState u)) (counts : TurnLaws) (so : KeepsMade text told r o d o1 d1 budget i new.machine.time)
     (some_made : SomeMake {T = Unit {0}} text told (o, d) (o1, d1) (Ok tt)) where
-  pub go_came : GoRuns (told.size d) r turns (around r (told.sectors d) budget) (around new (told.sectors d1) left) (Ok tt) → (i ≡ 0 → ((turns ≡ 0) × (new.machine.time ≡ r.machine.time)) ⊎ IsSome r.ended) →
+  pub go_came : GoRuns (told.size d) r turns (run_around r (told.sectors d) budget) (run_around new (told.sectors d1) left) (Ok tt) → (i ≡ 0 → ((turns ≡ 0) × (new.machine.time ≡ r.machine.time)) ⊎ IsSome r.ended) →
       GoCalls {T = Unit {0}} text told r turns budget (o, d) (o1, d1) (Ok tt)
   go_came gone none = record {
     exact = λ y s late held old k t wanted steps c p starts some more sum ready running past is shelf.

@@ -2,8 +2,8 @@
 use Rattle.std.proofs.Common.{◌≡◌, ℕ, zero, suc, ◌+◌, List, [], ◌++◌, Option, Some, None, sym, ap, ◌∙◌, arith, append_assoc}
 use Rattle.cvm_outside.specs.Outside.{Outside}
 use Rattle.cvm_outside.specs.Script.{Call, Who, Performs}
-use Rattle.cvm_outside.proofs.Follow.{both}
-use Rattle.cvm_outside.proofs.Putting.{same_script, scripts-none, scripts-suc}
+use Rattle.cvm_outside.proofs.ScriptsFollow.{both}
+use Rattle.cvm_outside.proofs.RowsPut.{same_script, scripts-none, scripts-suc}
 use Rattle.boot_turns.specs.Runs.{Run, Past, state_at, cvm_at}
 use Rattle.boot_turns.specs.StepScript.{step_script, steps_script}
 use Rattle.boot_turns.specs.LoopScripts.{InSteps}

@@ -18,7 +18,7 @@ use Rattle.layer_contract.specs.declared.boot.Boot.{Boot as Booted}
 use Rattle.layer_contract.specs.Boots.{boot_of}
 use Rattle.layer_contract.specs.Follows.{loaded, loaded_memory, loaded_sector}
 use Rattle.boot_turns.specs.Completes.{state_seen}
-use Rattle.boot_run.specs.Loading.{system_of, pages_of_users, written, with_words, TornAmong}
+use Rattle.boot_run.specs.Loading.{system_of, pages_of_users, pages_written, holding_words, TornAmong}
 use Rattle.boot_run.specs.LoadedPages.{calls_made, disk_pages, first_pages, user_pages}
 use Rattle.boot_run.specs.LoadEnds.{pages_needed}
 use Rattle.boot_run.proofs.PageLemmas.{page_or, written_is}
@@ -67,20 +67,20 @@ module _ (b : Booted) (rows : Rows) where
   pub kept_behind : 1 ≤ b.params.pages → (old : List (List ℕ)) (q : ℕ) → length lists * b.params.pages ≤ q → sector_of old q ≡ loaded_sector (system_of b rows) old q
   kept_behind some old q ge = sym (cond-false ((first_pages b.params.pages lists).live q) _ _ (dead some q ge))
 
-  sectors_are : 1 ≤ b.params.pages → (old : List (List ℕ)) → needed ≤ length old → written (disk_pages b.params.pages lists []) needed old ≡ map (loaded_sector (system_of b rows) old) (range_with_len 0 (length old))
+  sectors_are : 1 ≤ b.params.pages → (old : List (List ℕ)) → needed ≤ length old → pages_written (disk_pages b.params.pages lists []) needed old ≡ map (loaded_sector (system_of b rows) old) (range_with_len 0 (length old))
   sectors_are some old le = written_is (disk_pages b.params.pages lists []) needed old (loaded_sector (system_of b rows) old) le
       (λ q lt. page_below [] old q (subst (λ n. q < n) (sym needed_is) lt))
       (λ q ge. kept_behind some old q (subst (λ n. n ≤ q) (sym needed_is) ge))
 
   fresh : 1 ≤ b.params.pages → (told : Option (List (List ℕ))) (count : ℕ) → IfSome told (λ ss. length ss ≡ count) → needed ≤ count →
-      state_seen (option_map (written (disk_pages b.params.pages lists []) needed) told) (with_words (started (memory_frames (map_of (boot_of b))) rows) 0 b.words.items) ≡ option_map (loaded (system_of b rows)) told
+      state_seen (option_map (pages_written (disk_pages b.params.pages lists []) needed) told) (holding_words (started (memory_frames (map_of (boot_of b))) rows) 0 b.words.items) ≡ option_map (loaded (system_of b rows)) told
   fresh some None count sized le = refl
   fresh some (Some old) count sized le =
       let le2 : needed ≤ length old = omega (arith, sized, le) in
       ap Some (ap₂ (λ memory sectors. power_on memory sectors rows.inputs) memory_is (sectors_are some old le2))
 
 -- its memory has room for the map
-pub loaded_long : (b : Booted) (rows : Rows) (held : Held) → held ≡ with_words (started (memory_frames (map_of (boot_of b))) rows) 0 b.words.items → memory_words (map_of (boot_of b)) ≤ length held.hardware.memory
+pub loaded_long : (b : Booted) (rows : Rows) (held : Held) → held ≡ holding_words (started (memory_frames (map_of (boot_of b))) rows) 0 b.words.items → memory_words (map_of (boot_of b)) ≤ length held.hardware.memory
 loaded_long b rows held e =
     let zeros : List ℕ = replicate (1024 * memory_frames (map_of (boot_of b))) 0 in
     let a = length-append b.words.items (drop (0 + length b.words.items) zeros) in
@@ -89,7 +89,7 @@ loaded_long b rows held e =
     let w = whole b rows in
     subst (λ (m : Held). memory_words (map_of (boot_of b)) ≤ length m.hardware.memory) (sym e) (omega (arith, a, d, r, w))
 
-pub loaded_whole : (b : Booted) (rows : Rows) (held : Held) → held ≡ with_words (started (memory_frames (map_of (boot_of b))) rows) 0 b.words.items → length held.hardware.memory ≡ memory_words (map_of (boot_of b))
+pub loaded_whole : (b : Booted) (rows : Rows) (held : Held) → held ≡ holding_words (started (memory_frames (map_of (boot_of b))) rows) 0 b.words.items → length held.hardware.memory ≡ memory_words (map_of (boot_of b))
 loaded_whole b rows held e =
     let zeros : List ℕ = replicate (1024 * memory_frames (map_of (boot_of b))) 0 in
     let a = length-append b.words.items (drop (0 + length b.words.items) zeros) in
@@ -100,12 +100,12 @@ loaded_whole b rows held e =
     subst (λ (m : Held). length m.hardware.memory ≡ memory_words (map_of (boot_of b))) (sym e) (omega (arith, a, d, r, w, fits))
 
 pub stands_loaded : (b : Booted) (rows : Rows) (held : Held) (told retold : Option (List (List ℕ))) (count : ℕ) → 1 ≤ b.params.pages →
-    held ≡ with_words (started (memory_frames (map_of (boot_of b))) rows) 0 b.words.items →
-    retold ≡ option_map (written (disk_pages b.params.pages (map (λ words. words.items) b.users.items) []) (length b.users.items * b.params.pages)) told →
+    held ≡ holding_words (started (memory_frames (map_of (boot_of b))) rows) 0 b.words.items →
+    retold ≡ option_map (pages_written (disk_pages b.params.pages (map (λ words. words.items) b.users.items) []) (length b.users.items * b.params.pages)) told →
     IfSome told (λ ss. length ss ≡ count) → length b.users.items * b.params.pages ≤ count → state_seen retold held ≡ option_map (loaded (system_of b rows)) told
 stands_loaded b rows held told retold count some e h sized le =
     subst (λ (m : Held). state_seen retold m ≡ option_map (loaded (system_of b rows)) told) (sym e)
-    (ap (λ r. state_seen r (with_words (started (memory_frames (map_of (boot_of b))) rows) 0 b.words.items)) h ∙ fresh b rows some told count sized le)
+    (ap (λ r. state_seen r (holding_words (started (memory_frames (map_of (boot_of b))) rows) 0 b.words.items)) h ∙ fresh b rows some told count sized le)
 
 -- where the writing was broken off, the sectors become those of the start
 pub torn_becomes : (most : ℕ) (f g : List (List ℕ) → List (List ℕ)) (told retold : Option (List (List ℕ))) (live : ℕ → Bool) (made remade : Tally) → ((ss : List (List ℕ)) → most ≤ length ss → f ss ≡ g ss) →
@@ -129,11 +129,11 @@ pub told_many : (told : Option (List (List ℕ))) (ss : List (List ℕ)) (count 
 told_many told ss count e h = subst (λ (o : Option (List (List ℕ))). IfSome o (λ ss. length ss ≡ count)) e h
 
 pub torn_loaded : (b : Booted) (rows : Rows) (told retold : Option (List (List ℕ))) (made remade : Tally) (count : ℕ) → 1 ≤ b.params.pages →
-    TornAmong (length b.users.items * b.params.pages) (written (user_pages (system_of b rows)) (length b.users.items * b.params.pages)) told retold (user_pages (system_of b rows)).live made remade →
+    TornAmong (length b.users.items * b.params.pages) (pages_written (user_pages (system_of b rows)) (length b.users.items * b.params.pages)) told retold (user_pages (system_of b rows)).live made remade →
     IfSome told (λ ss. length ss ≡ count) → length b.users.items * b.params.pages ≤ count →
     TornAmong (pages_needed b) (λ ss. (loaded (system_of b rows) ss).device.sectors) told retold (user_pages (system_of b rows)).live made remade
 torn_loaded b rows told retold made remade count some w sized le =
-    torn_becomes (length b.users.items * b.params.pages) (written (user_pages (system_of b rows)) (length b.users.items * b.params.pages)) (λ ss. (loaded (system_of b rows) ss).device.sectors) told retold
+    torn_becomes (length b.users.items * b.params.pages) (pages_written (user_pages (system_of b rows)) (length b.users.items * b.params.pages)) (λ ss. (loaded (system_of b rows) ss).device.sectors) told retold
     (user_pages (system_of b rows)).live made remade
     (λ ss all. sectors_are b rows some ss all) (λ ss e. let many = told_many told ss count e sized in omega (arith, many, le)) w
 
@@ -142,11 +142,11 @@ module _ (b : Booted) (rows : Rows) (us : List (Vec ℕ Global)) (ws behind : Li
   abbrev wanted : Pages
   wanted = disk_pages b.params.pages (lists b rows) behind
 
-  pub written_so : retold ≡ option_map (written (pages_of_users b.params.pages us ws) n) told → retold ≡ option_map (written wanted need) told
+  pub written_so : retold ≡ option_map (pages_written (pages_of_users b.params.pages us ws) n) told → retold ≡ option_map (pages_written wanted need) told
   written_so w =
-      subst (λ (vs : List (Vec ℕ Global)). retold ≡ option_map (written (pages_of_users b.params.pages vs behind) need) told) users
-      (subst (λ (vs : List ℕ). retold ≡ option_map (written (pages_of_users b.params.pages us vs) need) told) words
-      (subst (λ m. retold ≡ option_map (written (pages_of_users b.params.pages us ws) m) told) many w))
+      subst (λ (vs : List (Vec ℕ Global)). retold ≡ option_map (pages_written (pages_of_users b.params.pages vs behind) need) told) users
+      (subst (λ (vs : List ℕ). retold ≡ option_map (pages_written (pages_of_users b.params.pages us vs) need) told) words
+      (subst (λ m. retold ≡ option_map (pages_written (pages_of_users b.params.pages us ws) m) told) many w))
 
   pub calls_so : remade.calls ≡ calls_made (pages_of_users b.params.pages us ws).live n made → remade.calls ≡ calls_made wanted.live need made
   calls_so w =
@@ -156,7 +156,7 @@ module _ (b : Booted) (rows : Rows) (us : List (Vec ℕ Global)) (ws behind : Li
 
   -- the writing that was broken off
   abbrev TornOf : List (Vec ℕ Global) → List ℕ → ℕ → Type 0
-  TornOf vs last m = TornAmong m (written (pages_of_users b.params.pages vs last) m) told retold (pages_of_users b.params.pages vs last).live made remade
+  TornOf vs last m = TornAmong m (pages_written (pages_of_users b.params.pages vs last) m) told retold (pages_of_users b.params.pages vs last).live made remade
 
-  pub torn_so : TornOf us ws n → TornAmong need (written wanted need) told retold wanted.live made remade
+  pub torn_so : TornOf us ws n → TornAmong need (pages_written wanted need) told retold wanted.live made remade
   torn_so w = subst (λ (vs : List (Vec ℕ Global)). TornOf vs behind need) users (subst (λ (vs : List ℕ). TornOf us vs need) words (subst (λ m. TornOf us ws m) many w))

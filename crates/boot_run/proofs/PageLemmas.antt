@@ -8,7 +8,7 @@ use Rattle.std.proofs.lemmas.List.FromFn.{fill_by_all}
 use Rattle.mips_table.specs.Device.{sector_of}
 use Rattle.page_model.specs.Paging.{Pages}
 use Rattle.mips_machine.specs.Machine.{Held}
-use Rattle.boot_run.specs.Loading.{with_page, words_of_page, written, StaysBut, TornAmong}
+use Rattle.boot_run.specs.Loading.{with_page, words_of_page, pages_written, StaysBut, TornAmong}
 use Rattle.boot_run.specs.LoadedPages.{calls_made, with_call}
 use Rattle.boot_run.specs.Writes.{PageTorn}
 use Rattle.cvm_outside.specs.Numbering.{Tally, until_fault}
@@ -16,9 +16,9 @@ use Rattle.cvm_outside.specs.Numbering.{Tally, until_fault}
 pub length-with_page : (p : Pages) (ss : List (List ℕ)) (q : ℕ) → length (with_page p ss q) ≡ length ss
 length-with_page p ss q = cond_both (p.live q) (set ss q (words_of_page p q)) ss (λ xs. length xs ≡ length ss) (λ _. length-set ss q (words_of_page p q)) (λ _. refl)
 
-pub length-written : (p : Pages) (n : ℕ) (ss : List (List ℕ)) → length (written p n ss) ≡ length ss
+pub length-written : (p : Pages) (n : ℕ) (ss : List (List ℕ)) → length (pages_written p n ss) ≡ length ss
 length-written p zero ss = refl
-length-written p (suc n) ss = length-with_page p (written p n ss) n ∙ length-written p n ss
+length-written p (suc n) ss = length-with_page p (pages_written p n ss) n ∙ length-written p n ss
 
 other_page : (p : Pages) (ss : List (List ℕ)) (q k : ℕ) → k ≢ q → sector_of (with_page p ss q) k ≡ sector_of ss k
 other_page p ss q k ne = cond_both (p.live q) (set ss q (words_of_page p q)) ss (λ xs. sector_of xs k ≡ sector_of ss k) (λ _. get_or-set_other ss q k (words_of_page p q) [] ne) (λ _. refl)
@@ -33,33 +33,33 @@ same_page p ss q lt = ⊎_elim
     (λ (e : p.live q ≡ false). ap (λ xs. sector_of xs q) (cond-false (p.live q) (set ss q (words_of_page p q)) ss e) ∙ sym (cond-false (p.live q) _ _ e))
     (cases_Bool (p.live q))
 
-pub later_page : (p : Pages) (n : ℕ) (ss : List (List ℕ)) (k : ℕ) → n ≤ k → sector_of (written p n ss) k ≡ sector_of ss k
+pub later_page : (p : Pages) (n : ℕ) (ss : List (List ℕ)) (k : ℕ) → n ≤ k → sector_of (pages_written p n ss) k ≡ sector_of ss k
 later_page p zero ss k le = refl
-later_page p (suc n) ss k le = other_page p (written p n ss) n k (λ e. absurd (omega (arith, e, le))) ∙ later_page p n ss k (omega arith)
+later_page p (suc n) ss k le = other_page p (pages_written p n ss) n k (λ e. absurd (omega (arith, e, le))) ∙ later_page p n ss k (omega arith)
 
-page_at : (p : Pages) (n : ℕ) (ss : List (List ℕ)) (k : ℕ) → k < n → n ≤ length ss → sector_of (written p n ss) k ≡ page_or p ss k
+page_at : (p : Pages) (n : ℕ) (ss : List (List ℕ)) (k : ℕ) → k < n → n ≤ length ss → sector_of (pages_written p n ss) k ≡ page_or p ss k
 page_at p zero ss k lt le = absurd (omega arith)
 page_at p (suc n) ss k lt le = ⊎_elim
-    (λ (e : k ≡ n). subst (λ j. sector_of (with_page p (written p n ss) n) j ≡ page_or p ss j) (sym e)
-    (same_page p (written p n ss) n (let l = length-written p n ss in omega (arith, l, le)) ∙ ap (λ w. cond (p.live n) (words_of_page p n) w) (later_page p n ss n (omega arith))))
-    (λ (ne : k ≢ n). other_page p (written p n ss) n k ne ∙ page_at p n ss k (omega (arith, ne, lt)) (omega arith))
+    (λ (e : k ≡ n). subst (λ j. sector_of (with_page p (pages_written p n ss) n) j ≡ page_or p ss j) (sym e)
+    (same_page p (pages_written p n ss) n (let l = length-written p n ss in omega (arith, l, le)) ∙ ap (λ w. cond (p.live n) (words_of_page p n) w) (later_page p n ss n (omega arith))))
+    (λ (ne : k ≢ n). other_page p (pages_written p n ss) n k ne ∙ page_at p n ss k (omega (arith, ne, lt)) (omega arith))
     (cases_eq k n)
 
 -- all at once: each sector holds its page, and what it held before where it gets none
 pub written_is : (p : Pages) (n : ℕ) (ss : List (List ℕ)) (f : ℕ → List ℕ) → n ≤ length ss → ((q : ℕ) → q < n → page_or p ss q ≡ f q) → ((q : ℕ) → n ≤ q → sector_of ss q ≡ f q) →
-    written p n ss ≡ map f (range_with_len 0 (length ss))
-written_is p n ss f le pages rest = fill_by_all f (written p n ss) (length ss) [] (length-written p n ss)
+    pages_written p n ss ≡ map f (range_with_len 0 (length ss))
+written_is p n ss f le pages rest = fill_by_all f (pages_written p n ss) (length ss) [] (length-written p n ss)
     (λ k lt. ⊎_elim
     (λ (l : k < n). page_at p n ss k l le ∙ pages k l)
     (λ (ge : n ≤ k). later_page p n ss k ge ∙ rest k ge)
     (cases_lt k n))
 
 -- a sector whose number is below those that are written
-early_page : (p : Pages) (n m : ℕ) (ss : List (List ℕ)) (k : ℕ) → k < n → n ≤ m → sector_of (written p m ss) k ≡ sector_of (written p n ss) k
+early_page : (p : Pages) (n m : ℕ) (ss : List (List ℕ)) (k : ℕ) → k < n → n ≤ m → sector_of (pages_written p m ss) k ≡ sector_of (pages_written p n ss) k
 early_page p n zero ss k lt le = absurd (omega arith)
 early_page p n (suc m) ss k lt le = ⊎_elim
-    (λ (e : n ≡ suc m). ap (λ i. sector_of (written p i ss) k) (sym e))
-    (λ (ne : n ≢ suc m). other_page p (written p m ss) m k (λ e. absurd (omega (arith, e, lt, le, ne))) ∙ early_page p n m ss k lt (omega (arith, ne, le)))
+    (λ (e : n ≡ suc m). ap (λ i. sector_of (pages_written p i ss) k) (sym e))
+    (λ (ne : n ≢ suc m). other_page p (pages_written p m ss) m k (λ e. absurd (omega (arith, e, lt, le, ne))) ∙ early_page p n m ss k lt (omega (arith, ne, le)))
     (cases_eq n (suc m))
 
 -- the page of a number is written
@@ -134,12 +134,12 @@ pub put_step : (held first : Held) (a b : List ℕ) (j w : ℕ) → held ≡ wit
 put_step held first a b j w e h = subst (λ m. with_memory m (set m.hardware.memory j w) ≡ with_memory first b) (sym e) (ap (with_memory first) h)
 
 -- the page of a number that is one stands in its sector, whatever stood there
-page_there : (p : Pages) (q most : ℕ) (ss : List (List ℕ)) → p.live q ≡ true → q < most → most ≤ length ss → sector_of (written p most ss) q ≡ words_of_page p q
+page_there : (p : Pages) (q most : ℕ) (ss : List (List ℕ)) → p.live q ≡ true → q < most → most ≤ length ss → sector_of (pages_written p most ss) q ≡ words_of_page p q
 page_there p q most ss live lt le = page_at p most ss q lt le ∙ cond-true (p.live q) (words_of_page p q) (sector_of ss q) live
 
 -- where the pages below a number are written, and the write of that one failed
-pub torn_among : (p : Pages) (q most : ℕ) (told mid retold : Option (List (List ℕ))) (made remade : Tally) (faults met : ℕ) → q < most → p.live q ≡ true → mid ≡ option_map (written p q) told → StaysBut q mid retold →
-    faults ≡ made.faults → met ≡ calls_made p.live q made → remade.calls ≡ with_call p.live faults met q → TornAmong most (written p most) told retold p.live made remade
+pub torn_among : (p : Pages) (q most : ℕ) (told mid retold : Option (List (List ℕ))) (made remade : Tally) (faults met : ℕ) → q < most → p.live q ≡ true → mid ≡ option_map (pages_written p q) told → StaysBut q mid retold →
+    faults ≡ made.faults → met ≡ calls_made p.live q made → remade.calls ≡ with_call p.live faults met q → TornAmong most (pages_written p most) told retold p.live made remade
 torn_among p q most told mid retold made remade faults met lt live e h same before now = record {
   at = q;
   inside = lt;
@@ -150,18 +150,18 @@ torn_among p q most told mid retold made remade faults met lt live e h same befo
   calls = now ∙ ap₂ (λ (b c : ℕ). with_call p.live b c q) same before;
 }
   where
-    early : (o : Option (List (List ℕ))) (k : ℕ) → k < q → option_map (λ ss. sector_of ss k) (option_map (written p q) o) ≡ option_map (λ ss. sector_of (written p most ss) k) o
+    early : (o : Option (List (List ℕ))) (k : ℕ) → k < q → option_map (λ ss. sector_of ss k) (option_map (pages_written p q) o) ≡ option_map (λ ss. sector_of (pages_written p most ss) k) o
     early None k l = refl
     early (Some ss) k l = ap Some (sym (early_page p q most ss k l (omega (arith, lt))))
 
-    late : (o : Option (List (List ℕ))) (k : ℕ) → q < k → option_map (λ ss. sector_of ss k) (option_map (written p q) o) ≡ option_map (λ ss. sector_of ss k) o
+    late : (o : Option (List (List ℕ))) (k : ℕ) → q < k → option_map (λ ss. sector_of ss k) (option_map (pages_written p q) o) ≡ option_map (λ ss. sector_of ss k) o
     late None k l = refl
     late (Some ss) k l = ap Some (later_page p q ss k (omega (arith, l)))
 
 -- one more page is written
-pub written_more : (p : Pages) (m n : ℕ) (told mid new : Option (List (List ℕ))) → n ≡ m + 1 → mid ≡ option_map (written p m) told → new ≡ option_map (λ ss. with_page p ss m) mid → new ≡ option_map (written p n) told
-written_more p m n told mid new e h k = k ∙ ap (option_map (λ ss. with_page p ss m)) h ∙ both told ∙ (let f : suc m ≡ n = omega (arith, e) in ap (λ i. option_map (written p i) told) f)
+pub written_more : (p : Pages) (m n : ℕ) (told mid new : Option (List (List ℕ))) → n ≡ m + 1 → mid ≡ option_map (pages_written p m) told → new ≡ option_map (λ ss. with_page p ss m) mid → new ≡ option_map (pages_written p n) told
+written_more p m n told mid new e h k = k ∙ ap (option_map (λ ss. with_page p ss m)) h ∙ both told ∙ (let f : suc m ≡ n = omega (arith, e) in ap (λ i. option_map (pages_written p i) told) f)
   where
-    both : (told : Option (List (List ℕ))) → option_map (λ ss. with_page p ss m) (option_map (written p m) told) ≡ option_map (written p (suc m)) told
+    both : (told : Option (List (List ℕ))) → option_map (λ ss. with_page p ss m) (option_map (pages_written p m) told) ≡ option_map (pages_written p (suc m)) told
     both None = refl
     both (Some ss) = refl

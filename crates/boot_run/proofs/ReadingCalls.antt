@@ -4,7 +4,7 @@ use Rattle.cvm_outside.specs.Outside.{no_files}
 use Rattle.cvm_outside.specs.Script.{Call, Printed, Read, Wrote, Got, Stored, WritesNoSector, blame}
 use Rattle.cvm_outside.specs.declared.sink.Sink as sink_of
 use Rattle.cvm_outside.specs.declared.sectors.Sectors as sectors_of
-use Rattle.cvm_outside.proofs.Putting.{unwritten, same_size}
+use Rattle.cvm_outside.proofs.RowsPut.{unwritten, same_size}
 use Rattle.boot_turns.specs.declared.answers.RunFault.{RunFault}
 use Rattle.boot_turns.specs.LoopScripts.{AreOfRun}
 use Rattle.boot_turns.specs.RowScripts.{of_run}

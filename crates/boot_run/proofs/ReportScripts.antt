@@ -18,8 +18,8 @@ use Rattle.boot_report.specs.Texts.{texts, memory_row, processor_rows, page_text
 use Rattle.boot_report.specs.Told.{UserIsTold}
 use Rattle.boot_report.specs.Resident.{page_reads}
 use Rattle.boot_report.specs.Scripts as reported
-use Rattle.boot_report.proofs.Spoken.{shown_is}
-use Rattle.boot_report.proofs.Telling.{from_front, registers_told}
+use Rattle.boot_report.proofs.ReportScripts.{shown_is}
+use Rattle.boot_report.proofs.UsersTell.{from_front, registers_told}
 use Rattle.boot_report.proofs.Texts.{texts-same}
 use Rattle.boot_turns.specs.StepScript as steps
 use Rattle.boot_turns.proofs.ShownRows.{scripts-same}
@@ -35,7 +35,7 @@ page_is words word p room h =
     ∙ sym (from_front 0 memory_text memory_row (λ k. refl) (λ k w rest. refl) (1024 * p) (take 1024 (drop (1024 * p) words)))
 
 -- A PAGE IS READ WHERE ITS ENTRY SAYS THAT IT IS IN NO FRAME: valid entries name frames of the memory
-reads_same : (m : Map) (held : Held) (ss : List (List ℕ)) (q : ℕ) → EntriesFit m (state_of held ss) → q < m.users * m.params.pages → page_reads m (state_of held []) q ≡ steps.page_reads m (state_of held ss) q
+reads_same : (m : Map) (held : Held) (ss : List (List ℕ)) (q : ℕ) → EntriesFit m (state_of held ss) → q < m.users * m.params.pages → page_reads m (state_of held []) q ≡ steps.reads_of_page m (state_of held ss) q
 reads_same m held ss q fit lt =
     by ((paged_of m (state_of held ss)).entry q / 2048 % 2 == 1) (nat_lt ((paged_of m (state_of held ss)).entry q / 4096) (memory_frames m)) (λ v. lt-ltb _ _ (fit q lt (eqb-true _ 1 v)))
   where
@@ -50,7 +50,7 @@ module _ (m : Map) (held : Held) (ss : List (List ℕ)) (c : Core) (running : �
     abbrev f : Flat
     f = user_of c.users u
 
-    page_script_is : (p : ℕ) → p < pages_of (user_of c.users u) → reported.page_script m (state_of held []) (Some ss) ((u - 1) * m.params.pages + p) p ≡ closing.page_script m (state_of held ss) u (user_of c.users u) p
+    page_script_is : (p : ℕ) → p < pages_of (user_of c.users u) → reported.page_script m (state_of held []) (Some ss) ((u - 1) * m.params.pages + p) p ≡ closing.page_report_script m (state_of held ss) u (user_of c.users u) p
     page_script_is p small =
         let whole = t.whole in
         let few = t.most in
@@ -60,16 +60,16 @@ module _ (m : Map) (held : Held) (ss : List (List ℕ)) (c : Core) (running : �
         (shown_is m held ss entries (page_text p) ((u - 1) * m.params.pages + p) inside
         ∙ ap (λ l. Some l) (page_is (user_of c.users u).words (shown_word (paged_of m (state_of held ss)) ((u - 1) * m.params.pages + p)) p (omega (arith, whole, small)) (λ i l. t.word p i small l)))
 
-    pub user_script_is : reported.user_script m held (Some ss) (u == running) u ≡ closing.user_script m (state_of held ss) u (user_of c.users u)
+    pub user_script_is : reported.user_script m held (Some ss) (u == running) u ≡ closing.user_report_script m (state_of held ss) u (user_of c.users u)
     user_script_is =
         ap₂ (λ n (cpu : Cpu). Printed (Some (processor_rows u n cpu)) ∷ reported.pages_script m (state_of held []) (Some ss) ((u - 1) * m.params.pages) n) t.pages t.cpu
         ∙ ap₂ (λ (r : List ℕ) (l : List Call). Printed (Some (user_head u (pages_of f) f.cpu.pc ++ r ++ nonzero_row (codes "hi") f.cpu.hi ++ nonzero_row (codes "lo") f.cpu.lo)) ∷ l)
         (registers_told f.cpu.regs f.cpu refl t.registers)
-        (scripts-same (λ p. reported.page_script m (state_of held []) (Some ss) ((u - 1) * m.params.pages + p) p) (closing.page_script m (state_of held ss) u f) (pages_of f) (λ p l. page_script_is p l))
+        (scripts-same (λ p. reported.page_script m (state_of held []) (Some ss) ((u - 1) * m.params.pages + p) p) (closing.page_report_script m (state_of held ss) u f) (pages_of f) (λ p l. page_script_is p l))
 
   pub users_script_is : ((u : ℕ) → 1 ≤ u → u ≤ m.users → UserIsTold m held ss c running u) → length c.users ≡ m.users →
-      reported.users_script m held (Some ss) running m.users ≡ scripts (λ i. closing.user_script m (state_of held ss) (i + 1) (user_of c.users (i + 1))) (length c.users)
+      reported.users_script m held (Some ss) running m.users ≡ scripts (λ i. closing.user_report_script m (state_of held ss) (i + 1) (user_of c.users (i + 1))) (length c.users)
   users_script_is told count =
-      scripts-same (λ i. reported.user_script m held (Some ss) (i + 1 == running) (i + 1)) (λ i. closing.user_script m (state_of held ss) (i + 1) (user_of c.users (i + 1))) m.users
+      scripts-same (λ i. reported.user_script m held (Some ss) (i + 1 == running) (i + 1)) (λ i. closing.user_report_script m (state_of held ss) (i + 1) (user_of c.users (i + 1))) m.users
       (λ i l. user_script_is (i + 1) (omega arith) (omega (arith, l)) (told (i + 1) (omega arith) (omega (arith, l))))
-      ∙ ap (scripts (λ i. closing.user_script m (state_of held ss) (i + 1) (user_of c.users (i + 1)))) (sym count)
+      ∙ ap (scripts (λ i. closing.user_report_script m (state_of held ss) (i + 1) (user_of c.users (i + 1)))) (sym count)

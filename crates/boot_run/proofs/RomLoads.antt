@@ -20,7 +20,7 @@ use Rattle.layer_contract.specs.Follows.{loaded_sector}
 use Rattle.boot_rom.specs.Boots.{rom_memory}
 use Rattle.boot_turns.specs.Completes.{state_seen}
 use Rattle.boot_turns.specs.Rom.{page_of, rom_loaded, rom_sector, rom_sectors}
-use Rattle.boot_run.specs.Loading.{system_of, written, with_rom, TornAmong}
+use Rattle.boot_run.specs.Loading.{system_of, pages_written, with_rom, TornAmong}
 use Rattle.boot_run.specs.LoadedPages.{disk_pages, rom_pages}
 use Rattle.boot_run.specs.LoadEnds.{rom_needed}
 use Rattle.boot_run.proofs.PageLemmas.{written_is}
@@ -80,7 +80,7 @@ module _ (b : Booted) (rows : Rows) where
 
   -- the disk that is written
   rom_sectors_are : 1 ≤ b.params.pages → (old : List (List ℕ)) → rom_needed b ≤ length old →
-      written (disk_pages b.params.pages (lists b rows) b.words.items) (rom_needed b) old ≡ map (rom_sector (system_of b rows) old) (range_with_len 0 (length old))
+      pages_written (disk_pages b.params.pages (lists b rows) b.words.items) (rom_needed b) old ≡ map (rom_sector (system_of b rows) old) (range_with_len 0 (length old))
   rom_sectors_are some old le = written_is (disk_pages b.params.pages (lists b rows) b.words.items) (rom_needed b) old (rom_sector (system_of b rows) old) le
       (λ q lt. ⊎_elim
       (λ (l : q < first). page_below b rows b.words.items old q l ∙ of_user old q l)
@@ -92,23 +92,23 @@ module _ (b : Booted) (rows : Rows) where
   frames = memory_frames (map_of (boot_of b))
 
   pub stands_from_rom : (rom : List ℕ) → length rom ≤ 1024 → 1 ≤ frames → (held : Held) (told retold : Option (List (List ℕ))) (count : ℕ) → 1 ≤ b.params.pages → held ≡ with_rom frames rom rows →
-      retold ≡ option_map (written (disk_pages b.params.pages (lists b rows) b.words.items) (rom_needed b)) told → IfSome told (λ ss. length ss ≡ count) → rom_needed b ≤ count →
+      retold ≡ option_map (pages_written (disk_pages b.params.pages (lists b rows) b.words.items) (rom_needed b)) told → IfSome told (λ ss. length ss ≡ count) → rom_needed b ≤ count →
       state_seen retold held ≡ option_map (rom_loaded (system_of b rows) rom) told
   stands_from_rom rom few some held told retold count pages e h sized le =
       ap₂ (λ (r : Option (List (List ℕ))) (m : Held). state_seen r m) h e ∙ by told sized
     where
       by : (o : Option (List (List ℕ))) → IfSome o (λ ss. length ss ≡ count) →
-          state_seen (option_map (written (disk_pages b.params.pages (lists b rows) b.words.items) (rom_needed b)) o) (with_rom frames rom rows) ≡ option_map (rom_loaded (system_of b rows) rom) o
+          state_seen (option_map (pages_written (disk_pages b.params.pages (lists b rows) b.words.items) (rom_needed b)) o) (with_rom frames rom rows) ≡ option_map (rom_loaded (system_of b rows) rom) o
       by None sized = refl
       by (Some old) sized =
           let enough : rom_needed b ≤ length old = omega (arith, sized, le) in
           ap Some (ap₂ (λ memory sectors. power_on memory sectors rows.inputs) (memory_is frames rom rows some few) (rom_sectors_are pages old enough))
 
   pub rom_torn : (rom : List ℕ) (told retold : Option (List (List ℕ))) (made remade : Tally) (count : ℕ) → 1 ≤ b.params.pages →
-      TornAmong (rom_needed b) (written (rom_pages (system_of b rows)) (rom_needed b)) told retold (rom_pages (system_of b rows)).live made remade → IfSome told (λ ss. length ss ≡ count) → rom_needed b ≤ count →
+      TornAmong (rom_needed b) (pages_written (rom_pages (system_of b rows)) (rom_needed b)) told retold (rom_pages (system_of b rows)).live made remade → IfSome told (λ ss. length ss ≡ count) → rom_needed b ≤ count →
       TornAmong (rom_needed b) (λ ss. (rom_loaded (system_of b rows) rom ss).device.sectors) told retold (rom_pages (system_of b rows)).live made remade
   rom_torn rom told retold made remade count some w sized le =
-      torn_becomes (rom_needed b) (written (rom_pages (system_of b rows)) (rom_needed b)) (λ ss. (rom_loaded (system_of b rows) rom ss).device.sectors) told retold (rom_pages (system_of b rows)).live made remade
+      torn_becomes (rom_needed b) (pages_written (rom_pages (system_of b rows)) (rom_needed b)) (λ ss. (rom_loaded (system_of b rows) rom ss).device.sectors) told retold (rom_pages (system_of b rows)).live made remade
       (λ ss all. rom_sectors_are some ss all) (λ ss e. let many = told_many told ss count e sized in omega (arith, many, le)) w
 
   -- its memory is the map's, and the ROM's frame

@@ -10,7 +10,7 @@ use Rattle.c0_meaning.specs.Sound.{shapes}
 use Rattle.c0_meaning.specs.TypedState.{types_of}
 use Rattle.layer_map.specs.Map.{Map, PartsInOrder, globals_at, memory_words}
 use Rattle.layer_contract.specs.declared.boot.Boot.{Boot as Booted}
-use Rattle.boot_run.specs.Placed.{PlacesHold}
+use Rattle.boot_run.specs.Placed.{LayoutHolds}
 
 -- there is a place for each declaration, none behind the words of all
 places_many : (structs : List Shape) (ds : List Typed) (at : ℕ) → length (offsets_from structs at (types_of ds)) ≡ length ds
@@ -22,19 +22,19 @@ places_inside structs [] at i lt = absurd (omega (arith, lt))
 places_inside structs (d ∷ ds) at zero lt = omega arith
 places_inside structs (d ∷ ds) at (suc i) lt = let r = places_inside structs ds (at + words structs d.ty) i (omega (arith, lt)) in omega (arith, r)
 
-module _ (b : Booted) (m : Map) (places memory : List ℕ) (count : ℕ) (p : PlacesHold b m places memory count) where
-  pub many : length places ≡ length b.unit.globals.items
+module _ (b : Booted) (m : Map) (offsets memory : List ℕ) (count : ℕ) (p : LayoutHolds b m offsets memory count) where
+  pub many : length offsets ≡ length b.unit.globals.items
   many =
       let e = length-map (map decl_view b.unit.globals.items) typed_of in
       let f = length-map b.unit.globals.items decl_view in
       ap length p.globals ∙ places_many (shapes (unit_view b.unit)) (map typed_of (unit_view b.unit).globals) 0 ∙ e ∙ f
 
-  pub inside : PartsInOrder m → (i : ℕ) → i < length places → globals_at m + slice_index places i < memory_words m
+  pub inside : PartsInOrder m → (i : ℕ) → i < length offsets → globals_at m + slice_index offsets i < memory_words m
   inside order i lt =
       let words : m.global_words ≡ all_words (shapes (unit_view b.unit)) (map typed_of (unit_view b.unit).globals) = ap (λ (q : Map). q.global_words) p.map in
       let few : i < length (map typed_of (unit_view b.unit).globals) =
       subst (λ n. i < n) (ap length p.globals ∙ places_many (shapes (unit_view b.unit)) (map typed_of (unit_view b.unit).globals) 0) lt in
-      let at : slice_index places i ≤ 0 + all_words (shapes (unit_view b.unit)) (map typed_of (unit_view b.unit).globals) =
+      let at : slice_index offsets i ≤ 0 + all_words (shapes (unit_view b.unit)) (map typed_of (unit_view b.unit).globals) =
       subst (λ (ps : List ℕ). slice_index ps i ≤ 0 + all_words (shapes (unit_view b.unit)) (map typed_of (unit_view b.unit).globals)) (sym p.globals)
       (places_inside (shapes (unit_view b.unit)) (map typed_of (unit_view b.unit).globals) 0 i few) in
       let a = order.globals in

@@ -5,8 +5,8 @@ use Rattle.cvm_outside.specs.Outside.{Files, output}
 use Rattle.cvm_outside.specs.declared.sink.Sink as sink_of
 use Rattle.cvm_outside.specs.declared.sectors.Sectors as sectors_of
 use Rattle.cvm_outside.specs.Script.{Call, TheDisk, Performs, done}
-use Rattle.cvm_outside.proofs.Follow.{both, first}
-use Rattle.cvm_outside.proofs.Putting.{same_script}
+use Rattle.cvm_outside.proofs.ScriptsFollow.{both, first}
+use Rattle.cvm_outside.proofs.RowsPut.{same_script}
 use Rattle.mips_table.specs.Machine.{State, run}
 use Rattle.mips_table.specs.Turns.{complete, lines_of_turn, is_end, end_within, TurnLaws}
 use Rattle.schedule_file.specs.Rows.{Rows}
@@ -33,17 +33,18 @@ use Rattle.boot_run.specs.Closing.{closing_script}
 use Rattle.boot_run.specs.LoadEnds.{Kept, IsFresh}
 use Rattle.boot_run.specs.Loading.{system_of}
 use Rattle.boot_run.specs.Pieces.{Bootable, FirstAt, GoRuns, end_of_fault}
-use Rattle.boot_run.specs.RunCalls.{run_at, begin_script, fault_script, report_script, TellsFrom, GoCalls, CloseCalls, of_load, loads, LoadCalls, of_end, end_by, EndsBy}
+use Rattle.boot_run.specs.RunCalls.{run_at, begin_script, fault_script, report_script, TellsFrom, GoCalls, CloseCalls, of_load, loads, LoadCalls, of_end, end_by, RunEndsBy}
 use Rattle.boot_run.specs.SaveCalls.{unless_on, stop_script, stop_by, due_stop, StopCalls, ToStopCalls, SaveScript}
-use Rattle.boot_run.specs.TurnCalls.{ended_of, around, Ready, StandsReady, KeepsLoad}
+use Rattle.boot_run.specs.TurnCalls.{run_around, ReadyAt, StandsReady, KeepsLoad}
 use Rattle.boot_run.proofs.EndScripts.{blames_so, late_none, now_is, closing_is, rest_made, rest_broke}
 use Rattle.boot_run.proofs.TurnToTurn.{running_of}
 use Rattle.boot_run.proofs.GoScripts.{no_sooner, goes_before, past_tells}
-use Rattle.boot_run.proofs.Looping.{machines}
+use Rattle.boot_run.proofs.TurnLoop.{machines}
 use Rattle.boot_run.proofs.ReadingCalls.{of_run_too}
 use Rattle.boot_run.proofs.ScriptParts.{at}
-use Rattle.boot_run.proofs.Scripting.{goes_none}
+use Rattle.boot_run.proofs.ScriptsOfTurns.{goes_none}
 use Rattle.boot_run.proofs.WholeScripts.{by_disk, same_loads}
+use Rattle.boot_run.specs.Shown.{ended_of}
 
 -- A RUN THAT HAS ENDED is closed
 over_is : (st : Status) (closing : List Call) → is_some (ended_of st) ≡ true → unless_on st closing ≡ closing
@@ -93,7 +94,7 @@ stop_parts v r p t off (Faulted f) all report is = is
 
 -- THE LOOP FAILED
 pub stop_fails : {L O D T : Type 0} (text : sink_of.Ghosts O) (told : sectors_of.Ghosts D) (r new : Kept L) (o o1 : O) (d d1 : D) (turns budget left : ℕ) (law : (u : CUnit) → MachinesRun (IsTypedState u)) (counts : TurnLaws) (f : RunFault) →
-    GoRuns (told.size d) r turns (around r (told.sectors d) budget) (around new (told.sectors d1) left) (Err f) → GoCalls {T = T} text told r turns budget (o, d) (o1, d1) (Err f) → ToStopCalls text told r turns budget (o, d) (o1, d1) (end_of_fault f)
+    GoRuns (told.size d) r turns (run_around r (told.sectors d) budget) (run_around new (told.sectors d1) left) (Err f) → GoCalls {T = T} text told r turns budget (o, d) (o1, d1) (Err f) → ToStopCalls text told r turns budget (o, d) (o1, d1) (end_of_fault f)
 stop_fails text told r new o o1 d d1 turns budget left law counts f goes calls = record {
   exact = λ y s late held old k t wanted steps c p starts some more sum ready running past is.
       let x = outside_of r.machine.rows (told.size d) in
@@ -123,12 +124,12 @@ stop_fails text told r new o o1 d d1 turns budget left law counts f goes calls =
 abbrev StopsAt : {L O D : Type 0} → sink_of.Ghosts O → sectors_of.Ghosts D → Kept L → Booted → Rows → View → (size : ℕ) → O → D → O → D → RunEnd → Type 0
 StopsAt text told r b rows v size o d o1 d1 end =
     (budget : ℕ) (y : System) (s : State) (late held : ℕ) (k t : ℕ) (c : Cvm) → y.boot ≡ boot_of b → StartsFrom (IsTypedState (unit_view b.unit)) (outside_of rows size) y s late held →
-    Ready (outside_of rows size) y s v (suc k) t c (around r (told.sectors d) budget) → (turns steps : ℕ) (p : Past) → TellsFrom (run_at (outside_of rows size) y s v turns steps) p t t →
-    EndsBy text told (o, d) (o1, d1) (unless_on c.status (report_script v (run_at (outside_of rows size) y s v turns steps) p t c.status)) (stop_by true c.status) end
+    ReadyAt (outside_of rows size) y s v (suc k) t c (run_around r (told.sectors d) budget) → (turns steps : ℕ) (p : Past) → TellsFrom (run_at (outside_of rows size) y s v turns steps) p t t →
+    RunEndsBy text told (o, d) (o1, d1) (unless_on c.status (report_script v (run_at (outside_of rows size) y s v turns steps) p t c.status)) (stop_by true c.status) end
 
 -- OR CAME TO ITS END, and the run stops or is closed
 pub stop_comes : {L O D : Type 0} (text : sink_of.Ghosts O) (told : sectors_of.Ghosts D) (r mid : Kept L) (o o1 o2 : O) (d d1 d2 : D) (turns budget left : ℕ) (law : (u : CUnit) → MachinesRun (IsTypedState u)) (counts : TurnLaws) (e : RunEnd) → KeepsLoad r mid → told.size d1 ≡ told.size d →
-    GoRuns (told.size d) r turns (around r (told.sectors d) budget) (around mid (told.sectors d1) left) (Ok tt) → GoCalls {T = Unit {0}} text told r turns budget (o, d) (o1, d1) (Ok tt) → StopCalls text told mid (o1, d1) (o2, d2) e →
+    GoRuns (told.size d) r turns (run_around r (told.sectors d) budget) (run_around mid (told.sectors d1) left) (Ok tt) → GoCalls {T = Unit {0}} text told r turns budget (o, d) (o1, d1) (Ok tt) → StopCalls text told mid (o1, d1) (o2, d2) e →
     ToStopCalls text told r turns budget (o, d) (o2, d2) e
 stop_comes text told r mid o o1 o2 d d1 d2 turns budget left law counts e kept size goes calls stops = record {
   exact = λ y s late held old k t wanted steps c p starts some more sum ready running past is.
@@ -169,11 +170,11 @@ stop_comes text told r mid o o1 o2 d d1 d2 turns budget left law counts e kept s
         (subst (λ (b : Booted). StopsAt text told mid b mid.machine.rows mid.view (told.size d1) o1 d1 o2 d2 e) kept.boot_is stops.exact)))
 
 -- WHERE NO RUN IS LOADED
-pub save_refused : {L O D T : Type 0} (text : sink_of.Ghosts O) (told : sectors_of.Ghosts D) (y : System) (rows : Rows) (start : List (List ℕ) → State) (turns steps : ℕ) (script : List Call) (o : O) (d d1 : D) (f : LoadFault) →
-    LoadCalls {T = T} told d d1 script (Err f) → SaveScript {L = L} text told y rows start turns steps script (o, d) (o, d1) (Err f)
-save_refused {L} {O} {D} {T} text told y rows start turns steps script o d d1 f calls = record {
+pub save_refused : {O D T : Type 0} (text : sink_of.Ghosts O) (told : sectors_of.Ghosts D) (y : System) (rows : Rows) (start : List (List ℕ) → State) (turns steps : ℕ) (script : List Call) (o : O) (d d1 : D) (f : LoadFault) →
+    LoadCalls {T = T} told d d1 script (Err f) → SaveScript {L = Unit {0}} text told y rows start turns steps script (o, d) (o, d1) (Err f)
+save_refused {O} {D} {T} text told y rows start turns steps script o d d1 f calls = record {
   exact = λ begun sectors p is past. (
-    λ shelf. subst (Performs (script ++ stop_script (run_at (outside_of rows (told.size d)) y (start sectors) Boot turns steps) p 0) (at text told shelf o d) (at text told shelf o d1)) (sym (by_disk (Kept L × RunEnd) f begun))
+    λ shelf. subst (Performs (script ++ stop_script (run_at (outside_of rows (told.size d)) y (start sectors) Boot turns steps) p 0) (at text told shelf o d) (at text told shelf o d1)) (sym (by_disk RunEnd f begun))
         (first script (stop_script (run_at (outside_of rows (told.size d)) y (start sectors) Boot turns steps) p 0) (at text told shelf o d) (at text told shelf o d1) TheDisk (made begun shelf)),
     λ _. tt,
   );
@@ -181,20 +182,20 @@ save_refused {L} {O} {D} {T} text told y rows start turns steps script o d d1 f 
     [],
     tt,
     λ shelf. same_script script (script ++ []) (at text told shelf o d) (at text told shelf o d1) (of_load f) (sym (append-nil script))
-        (subst (Performs script (at text told shelf o d) (at text told shelf o d1)) (sym (by_disk (Kept L × RunEnd) f begun)) (made begun shelf)),
+        (subst (Performs script (at text told shelf o d) (at text told shelf o d1)) (sym (by_disk RunEnd f begun)) (made begun shelf)),
   );
-  none = λ e. ap (λ (q : D). (o, q)) (calls.none (same_loads T (Kept L × RunEnd) f ∙ e));
+  none = λ e. ap (λ (q : D). (o, q)) (calls.none (same_loads T RunEnd f ∙ e));
 }
   where
-    made : loads {T = Kept L × RunEnd} (Err f) ≡ true → (shelf : Files) → Performs script (at text told shelf o d) (at text told shelf o d1) (Some TheDisk)
-    made begun shelf = subst (Performs script (at text told shelf o d) (at text told shelf o d1)) (by_disk (Kept L × RunEnd) f begun) (calls.made (same_loads T (Kept L × RunEnd) f ∙ begun) shelf (output text o))
+    made : loads {T = RunEnd} (Err f) ≡ true → (shelf : Files) → Performs script (at text told shelf o d) (at text told shelf o d1) (Some TheDisk)
+    made begun shelf = subst (Performs script (at text told shelf o d) (at text told shelf o d1)) (by_disk RunEnd f begun) (calls.made (same_loads T RunEnd f ∙ begun) shelf (output text o))
 
 -- WHERE ONE IS
 abbrev ToStopAt : {L O D : Type 0} → sink_of.Ghosts O → sectors_of.Ghosts D → Kept L → Booted → Rows → View → (size turns budget : ℕ) → O → D → O → D → RunEnd → Type 0
 ToStopAt text told r b rows v size turns budget o d o1 d1 e =
     (y : System) (s : State) (late held : ℕ) (old : List (List ℕ)) (k t wanted steps : ℕ) (c : Cvm) → Bootable b rows size y s late held old → FirstAt (outside_of rows size) s k t → 1 ≤ wanted → k + turns ≡ wanted → budget + t ≡ steps →
-    Ready (outside_of rows size) y s v k t c (around r (told.sectors d) budget) → c.status ≡ Running → (p : Past) → IsPast (run_at (outside_of rows size) y s v wanted steps) p →
-    EndsBy text told (o, d) (o1, d1) (begin_script (run_at (outside_of rows size) y s v wanted steps) k ++ stop_script (run_at (outside_of rows size) y s v wanted steps) p t) (due_stop (run_at (outside_of rows size) y s v wanted steps) p) e
+    ReadyAt (outside_of rows size) y s v k t c (run_around r (told.sectors d) budget) → c.status ≡ Running → (p : Past) → IsPast (run_at (outside_of rows size) y s v wanted steps) p →
+    RunEndsBy text told (o, d) (o1, d1) (begin_script (run_at (outside_of rows size) y s v wanted steps) k ++ stop_script (run_at (outside_of rows size) y s v wanted steps) p t) (due_stop (run_at (outside_of rows size) y s v wanted steps) p) e
 
 module _ {L O D : Type 0} (text : sink_of.Ghosts O) (told : sectors_of.Ghosts D) (layer : L) (b : Booted) (rows : Rows) (start : List (List ℕ) → State) (held need : ℕ) (turns steps : ℕ) (script : List Call) (o o1 : O) (d d1 d2 : D) (r new : Kept L) (e : RunEnd)
     (fresh : IsFresh layer b Boot rows need (told.size d) r) (size : told.size d1 ≡ told.size d) (some : 1 ≤ turns)
@@ -213,7 +214,7 @@ module _ {L O D : Type 0} (text : sink_of.Ghosts O) (told : sectors_of.Ghosts D)
         let y = system_of b rows in
         let rn : Run = run_at (outside_of rows (told.size d)) y (start sectors) Boot turns steps in
         let w = stop_at y (start sectors) (premises sectors is).0 held sectors 0 0 turns steps (first_cvm y) (premises sectors is).1 (record { before = λ j h. absurd (omega (arith, h)); on = λ j h. absurd (omega (arith, h)) }) some (omega arith) (omega arith)
-        (subst (λ (q : View). Ready (outside_of rows (told.size d)) y (start sectors) q 0 0 (first_cvm y) (around r (told.sectors d1) steps)) fresh.view_is (ready (outside_of rows (told.size d)) sectors steps is)) refl p past in (
+        (subst (λ (q : View). ReadyAt (outside_of rows (told.size d)) y (start sectors) q 0 0 (first_cvm y) (run_around r (told.sectors d1) steps)) fresh.view_is (ready (outside_of rows (told.size d)) sectors steps is)) refl p past in (
           λ shelf. both script (stop_script rn p 0) (at text told shelf o d) (at text told shelf o d1) (at text told shelf o1 d2) (of_end e) (loaded.made refl shelf (output text o)) (w.made shelf),
           w.is,
         );

@@ -26,9 +26,9 @@ use Rattle.boot_run.specs.Loading.{system_of}
 use Rattle.boot_run.specs.Resuming.{IsFirst}
 use Rattle.boot_run.specs.SavedFiles.{SavedBootsAreOfRuns}
 use Rattle.boot_run.specs.SavedRuns.{SavedAt}
-use Rattle.boot_run.proofs.TakingUp.{steady, stands, can, user_mode, goes_on}
+use Rattle.boot_run.proofs.SavedTakenUp.{steady, stands, can, user_mode, goes_on}
 use Rattle.boot_run.proofs.Rejoining.{first_of}
-use Rattle.boot_run.proofs.Unchanging.{stays_whole}
+use Rattle.boot_run.proofs.MemorySize.{stays_whole}
 
 -- A WORD THAT IS NOT LEFT OUT is none of the layer's own
 neither : (a b : Bool) → (a || b) ≡ false → (a ≡ false) × (b ≡ false)

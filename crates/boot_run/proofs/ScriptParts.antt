@@ -7,9 +7,9 @@ use Rattle.cvm_outside.specs.Outside.{Outside, Files, Output, output, drive}
 use Rattle.cvm_outside.specs.declared.sink.Sink as sink_of
 use Rattle.cvm_outside.specs.declared.sectors.Sectors as sectors_of
 use Rattle.cvm_outside.specs.Script.{Call, Printed, Who, Performs, done, Puts}
-use Rattle.cvm_outside.proofs.Follow.{both, first}
+use Rattle.cvm_outside.proofs.ScriptsFollow.{both, first}
 use Rattle.cvm_outside.proofs.Parts.{append_known-nil}
-use Rattle.cvm_outside.proofs.Putting.{performed, same_script}
+use Rattle.cvm_outside.proofs.RowsPut.{performed, same_script}
 use Rattle.mips_table.specs.Device as device
 use Rattle.mips_table.specs.Machine.{State}
 use Rattle.mips_table.specs.Turns.{lines_of_turn}

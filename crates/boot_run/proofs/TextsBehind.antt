@@ -2,8 +2,8 @@
 use Rattle.std.proofs.Common.{ℕ, zero, suc, ◌≤◌, List, [], ◌∷◌, ◌++◌, Option, Some, None, refl, sym, ◌∙◌, arith}
 use Rattle.cvm_outside.specs.Outside.{Outside}
 use Rattle.cvm_outside.specs.Script.{Call, Printed, Who, Performs, done, goes_on, scripts}
-use Rattle.cvm_outside.proofs.Follow.{both, first}
-use Rattle.cvm_outside.proofs.Putting.{same_script, scripts-none, scripts-suc}
+use Rattle.cvm_outside.proofs.ScriptsFollow.{both, first}
+use Rattle.cvm_outside.proofs.RowsPut.{same_script, scripts-none, scripts-suc}
 use Rattle.boot_turns.specs.LoopScripts.{InSteps}
 
 -- of two scripts that are done the first is, and then the second

@@ -16,8 +16,9 @@ use Rattle.boot_turns.specs.declared.answers.View.{View}
 use Rattle.boot_turns.specs.declared.answers.Turn.{Turn}
 use Rattle.boot_turns.specs.declared.answers.RunFault.{RunFault}
 use Rattle.boot_turns.specs.declared.answers.RunFault.TheVariants.{StepLimit, Disk, Sink}
-use Rattle.boot_run.specs.TurnCalls.{ended_of, Around, Ready, Turned, Limited, TurnsEnd}
+use Rattle.boot_run.specs.TurnCalls.{Around, ReadyAt, Turned, Limited, TurnsEnd}
 use Rattle.boot_run.specs.Pieces.{Gone, Late, FirstAt, GoFails}
+use Rattle.boot_run.specs.Shown.{ended_of}
 
 -- after i turns the machine came to step t, and no end came before
 pub record Came (x : Environment) (y : System) (s0 : State) (steps i t : ℕ) (c : Cvm) (budget : ℕ) : Type 0 where
@@ -28,13 +29,13 @@ pub record Came (x : Environment) (y : System) (s0 : State) (steps i t : ℕ) (c
 
 -- and the next call finds the run so
 pub record Going (x : Environment) (y : System) (s0 : State) (v : View) (steps i t : ℕ) (c : Cvm) (now : Around) : Type 0 where
-  pub ready : Ready x y s0 v i t c now
+  pub ready : ReadyAt x y s0 v i t c now
   pub came : Came x y s0 steps i t c now.budget
 
 abbrev pub Goes : Environment → System → State → View → (steps i : ℕ) → Around → Type 0
 Goes x y s0 v steps i now = (t : ℕ) × (c : Cvm) × Going x y s0 v steps i t c now
 
-pub going_from : (x : Environment) (y : System) (s0 : State) (v : View) (k t steps : ℕ) (c : Cvm) (now : Around) → FirstAt x s0 k t → now.budget + t ≡ steps → Ready x y s0 v k t c now → Goes x y s0 v steps k now
+pub going_from : (x : Environment) (y : System) (s0 : State) (v : View) (k t steps : ℕ) (c : Cvm) (now : Around) → FirstAt x s0 k t → now.budget + t ≡ steps → ReadyAt x y s0 v k t c now → Goes x y s0 v steps k now
 going_from x y s0 v k t steps c now starts sum ready = (t, c, record { ready = ready; came = record { stood = ready.stood; before = starts.before; on = starts.on; spent = sum } })
 
 -- turns that were passed
@@ -58,7 +59,7 @@ running_of Running e = refl
 running_of Halted e = absurd (cc)
 running_of (Faulted f) e = absurd (cc)
 
-pub goes_on : (x : Environment) (y : System) (s0 : State) (v : View) (i t : ℕ) (c : Cvm) (now : Around) → Ready x y s0 v i t c now → now.ended ≡ None → c.status ≡ Running
+pub goes_on : (x : Environment) (y : System) (s0 : State) (v : View) (i t : ℕ) (c : Cvm) (now : Around) → ReadyAt x y s0 v i t c now → now.ended ≡ None → c.status ≡ Running
 goes_on x y s0 v i t c now r e = running_of c.status (sym r.ended ∙ e)
 
 or_true : (b : Bool) → (b || true) ≡ true
@@ -79,7 +80,7 @@ going_next : (x : Environment) (y : System) (s0 : State) (v : View) (steps i nex
     Came x y s0 steps i t c before.budget → Turned x y s0 v i t c before after answer → Goes x y s0 v steps next after
 going_next x y s0 v steps i next t c before after answer is g w =
     let a = w.ahead in
-    let ready = subst (λ n. Ready x y s0 v n a.end a.after after) is w.ready in
+    let ready = subst (λ n. ReadyAt x y s0 v n a.end a.after after) is w.ready in
     let b0 = g.spent in
     let b1 = w.budget in (
       a.end,

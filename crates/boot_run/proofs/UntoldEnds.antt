@@ -4,8 +4,8 @@ use Rattle.std.specs.Prelude.{if◌then◌else◌}
 use Rattle.cvm_outside.specs.declared.sink.Sink as sink_of
 use Rattle.cvm_outside.specs.declared.sectors.Sectors as sectors_of
 use Rattle.cvm_outside.specs.Script.{Call, Performs}
-use Rattle.cvm_outside.proofs.Follow.{both}
-use Rattle.cvm_outside.proofs.Putting.{same_script}
+use Rattle.cvm_outside.proofs.ScriptsFollow.{both}
+use Rattle.cvm_outside.proofs.RowsPut.{same_script}
 use Rattle.mips_table.specs.Device as device
 use Rattle.mips_table.specs.Machine.{State, run}
 use Rattle.mips_table.specs.Turns.{is_end, end_within, TurnLaws}
@@ -26,9 +26,9 @@ use Rattle.boot_run.specs.AnyRun.{AnyGoRuns, is_faulted}
 use Rattle.boot_run.specs.AnyScripts.{untold_script, end_by_power, power_end, IsReport, EndsUntold, GoUntold, RestUntold}
 use Rattle.boot_run.specs.LoadEnds.{Kept}
 use Rattle.boot_run.specs.Pieces.{end_of_fault}
-use Rattle.boot_run.specs.RunCalls.{run_at, of_end, Made, EndsBy, CloseCalls}
+use Rattle.boot_run.specs.RunCalls.{run_at, of_end, CallsAreMade, RunEndsBy, CloseCalls}
 use Rattle.boot_run.specs.Shown.{end_of_next, fault_of_power, has_faulted}
-use Rattle.boot_run.specs.TurnCalls.{around}
+use Rattle.boot_run.specs.TurnCalls.{run_around}
 use Rattle.boot_run.proofs.EndScripts.{blames_so}
 use Rattle.boot_run.proofs.TurnToTurn.{none_within}
 use Rattle.boot_run.proofs.ScriptParts.{at}
@@ -49,11 +49,11 @@ power_is (Some (suc power)) = ap closed_end (sym (power_faults power))
 -- an end with a report behind it, that is due
 module _ {O D : Type 0} (text : sink_of.Ghosts O) (told : sectors_of.Ghosts D) (old new : O × D) (x : device.Environment) (y : System) (s : State) (wanted steps t : ℕ) where
   due_so : (due : RunEnd) → power_end (run_at x y s Boot wanted steps) ≡ due → (report : List Call) → IsReport due report → (end : RunEnd) →
-      EndsBy text told old new (untold_script x s t (end_within x s wanted steps - t) ++ report) due end → EndsUntold text told old new (run_at x y s Boot wanted steps) t end
+      RunEndsBy text told old new (untold_script x s t (end_within x s wanted steps - t) ++ report) due end → EndsUntold text told old new (run_at x y s Boot wanted steps) t end
   due_so due is report reports end w = record {
     report = report;
     is_report = subst (λ (e : RunEnd). IsReport e report) (sym is) reports;
-    ends = subst (λ (e : RunEnd). EndsBy text told old new (untold_script x s t (end_within x s wanted steps - t) ++ report) e end) (sym is) w;
+    ends = subst (λ (e : RunEnd). RunEndsBy text told old new (untold_script x s t (end_within x s wanted steps - t) ++ report) e end) (sym is) w;
   }
 
 -- no report stands behind any end
@@ -87,7 +87,7 @@ done_end ends.ShelfFault plain h other none = absurd plain
 
 -- THE LOOP FAILED
 pub rest_broken : {L O D : Type 0} (T : Type 0) (text : sink_of.Ghosts O) (told : sectors_of.Ghosts D) (r new : Kept L) (o o1 : O) (d d1 : D) (turns budget left : ℕ) (counts : TurnLaws) (f : RunFault) →
-    AnyGoRuns (told.size d) r turns (around r (told.sectors d) budget) (around new (told.sectors d1) left) (Err f) → GoUntold {T = T} text told r turns budget (o, d) (o1, d1) (Err f) →
+    AnyGoRuns (told.size d) r turns (run_around r (told.sectors d) budget) (run_around new (told.sectors d1) left) (Err f) → GoUntold {T = T} text told r turns budget (o, d) (o1, d1) (Err f) →
     RestUntold text told r turns budget (o, d) (o1, d1) (end_of_fault f)
 rest_broken T text told r new o o1 d d1 turns budget left counts f goes calls y s k t wanted steps alone on fine comes here is more sum =
     let x = outside_of r.machine.rows (told.size d) in
@@ -99,7 +99,7 @@ rest_broken T text told r new o o1 d d1 turns budget left counts f goes calls y 
       is = λ none. by f (sym (blames_so f) ∙ none) goes;
     })
   where
-    by : (f : RunFault) → of_run f ≡ None → AnyGoRuns (told.size d) r turns (around r (told.sectors d) budget) (around new (told.sectors d1) left) (Err f) →
+    by : (f : RunFault) → of_run f ≡ None → AnyGoRuns (told.size d) r turns (run_around r (told.sectors d) budget) (run_around new (told.sectors d1) left) (Err f) →
         end_of_fault f ≡ power_end (run_at (outside_of r.machine.rows (told.size d)) y s Boot wanted steps)
     by StepLimit none goes =
         let x = outside_of r.machine.rows (told.size d) in
@@ -113,11 +113,11 @@ rest_broken T text told r new o o1 d d1 turns budget left counts f goes calls y 
 
 -- OR CAME TO ITS END, and the run is closed
 module _ {L O D : Type 0} (text : sink_of.Ghosts O) (told : sectors_of.Ghosts D) (r mid : Kept L) (o o1 o2 : O) (d d1 d2 : D) (turns budget left : ℕ) (counts : TurnLaws) (e : RunEnd)
-    (goes : AnyGoRuns (told.size d) r turns (around r (told.sectors d) budget) (around mid (told.sectors d1) left) (Ok tt)) (calls : GoUntold {T = Unit {0}} text told r turns budget (o, d) (o1, d1) (Ok tt))
+    (goes : AnyGoRuns (told.size d) r turns (run_around r (told.sectors d) budget) (run_around mid (told.sectors d1) left) (Ok tt)) (calls : GoUntold {T = Unit {0}} text told r turns budget (o, d) (o1, d1) (Ok tt))
     (closes : CloseCalls text told mid (o1, d1) (o2, d2) e) (how : has_faulted mid.ended ≡ is_faulted e) (other : e ≢ ends.OutOfSteps) (plain : EndsUnsaved e) where
   -- the report, by whether the kernel faulted
   closed_by : (faulted : Bool) → has_faulted mid.ended ≡ faulted → (x : device.Environment) (y : System) (s : State) (wanted steps t : ℕ) → power_end (run_at x y s Boot wanted steps) ≡ closed_end faulted →
-      Made text told (o, d) (o1, d1) (untold_script x s t (end_within x s wanted steps - t)) None → EndsUntold text told (o, d) (o2, d2) (run_at x y s Boot wanted steps) t e
+      CallsAreMade text told (o, d) (o1, d1) (untold_script x s t (end_within x s wanted steps - t)) None → EndsUntold text told (o, d) (o2, d2) (run_at x y s Boot wanted steps) t e
   closed_by true is x y s wanted steps t due made =
       let all : List Call = untold_script x s t (end_within x s wanted steps - t) in
       let kernel = faulted_end e (sym how ∙ is) in

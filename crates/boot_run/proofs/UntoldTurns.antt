@@ -6,8 +6,8 @@ use Rattle.cvm_outside.specs.Outside.{Outside, Files, output}
 use Rattle.cvm_outside.specs.declared.sink.Sink as sink_of
 use Rattle.cvm_outside.specs.declared.sectors.Sectors as sectors_of
 use Rattle.cvm_outside.specs.Script.{Call, Printed, Who, TheSink, TheDisk, Performs, done, Puts, blame}
-use Rattle.cvm_outside.proofs.Follow.{first}
-use Rattle.cvm_outside.proofs.Putting.{same_script}
+use Rattle.cvm_outside.proofs.ScriptsFollow.{first}
+use Rattle.cvm_outside.proofs.RowsPut.{same_script}
 use Rattle.mips_table.specs.Device as device
 use Rattle.mips_table.specs.Machine.{State, run}
 use Rattle.mips_table.specs.Turns.{complete, is_end, IsTurnEnd, end_within, TurnLaws}
@@ -29,9 +29,9 @@ use Rattle.boot_turns.proofs.StepMakes.{from_add, in_all, in_both}
 use Rattle.boot_run.specs.AnyRun.{AnyTurnsRun, AnyGoRuns}
 use Rattle.boot_run.specs.AnyScripts.{untold_step, untold_script, TurnsUntold, GoUntold}
 use Rattle.boot_run.specs.LoadEnds.{Kept}
-use Rattle.boot_run.specs.TurnCalls.{around, KeepsLoad}
+use Rattle.boot_run.specs.TurnCalls.{run_around, KeepsLoad}
 use Rattle.boot_run.specs.TurnParts.{rows_before}
-use Rattle.boot_run.proofs.AnyCalls.{AnyGoing, is_on}
+use Rattle.boot_run.proofs.AnyRunCalls.{AnyGoing, is_on}
 use Rattle.boot_run.proofs.TurnToTurn.{no_end, none_within}
 use Rattle.boot_run.proofs.GoScripts.{no_sooner}
 use Rattle.boot_run.proofs.ScriptParts.{at, none_put, some_put}
@@ -80,7 +80,7 @@ module _ {L O D : Type 0} (text : sink_of.Ghosts O) (told : sectors_of.Ghosts D)
 
     -- or made, and the text behind them was put, or cut off
     pub untold_made : {R T : Type 0} (v : R) → StepsCall {T = R} text told (map_of (boot_of r.boot)) r.machine r.tracer (o1, d) (o2, d1) n (Ok v) → n ≡ budget - left → left ≤ budget → (made : ℕ) (answer : Turn) → 1 ≤ made →
-        AnyTurnsRun (told.size d) r most (around r (told.sectors d) budget) (around new (told.sectors d1) left) (Ok (made, answer)) → (rows : List ℕ) (result : Result T RunFault) →
+        AnyTurnsRun (told.size d) r most (run_around r (told.sectors d) budget) (run_around new (told.sectors d1) left) (Ok (made, answer)) → (rows : List ℕ) (result : Result T RunFault) →
         Puts rows (output text o2) (output text o3) (blame of_run result) → TurnsUntold text told r (o, d) (o3, d1) n result
     untold_made v calls n_is less made answer some runs rows result behind s k t alone on fine comes here is shelf =
         let x = outside_of r.machine.rows (told.size d) in
@@ -115,7 +115,7 @@ UntoldAt text told r rows size o d o1 d1 n blamed =
 
 module _ {L O D : Type 0} (text : sink_of.Ghosts O) (told : sectors_of.Ghosts D) (r now : Kept L) (o o1 o2 : O) (d d1 d2 : D) (budget left i : ℕ) (kept : KeepsLoad r now) (size : told.size d1 ≡ told.size d) (less : left ≤ budget)
     (alone_too : r.tracer ≡ None → now.tracer ≡ None) (on_too : now.ended ≡ None) (fine_too : now.fault ≡ None)
-    (going : AnyGoing (told.size d) r (around r (told.sectors d) budget) i (around now (told.sectors d1) left)) (so : TurnsUntold {T = Unit {0}} text told r (o, d) (o1, d1) (budget - left) (Ok tt)) where
+    (going : AnyGoing (told.size d) r (run_around r (told.sectors d) budget) i (run_around now (told.sectors d1) left)) (so : TurnsUntold {T = Unit {0}} text told r (o, d) (o1, d1) (budget - left) (Ok tt)) where
   next_at : {T : Type 0} (n : ℕ) (result : Result T RunFault) → TurnsUntold text told now (o1, d1) (o2, d2) n result → UntoldAt text told now r.machine.rows (told.size d) o1 d1 o2 d2 n (blame of_run result)
   next_at n result calls =
       subst (λ (q : ℕ). UntoldAt text told now r.machine.rows q o1 d1 o2 d2 n (blame of_run result)) size
@@ -153,7 +153,7 @@ module _ (x : device.Environment) (s : State) (wanted : ℕ) where
 
 -- IT CAME TO ITS END
 module _ {L O D : Type 0} (text : sink_of.Ghosts O) (told : sectors_of.Ghosts D) (r new : Kept L) (o o1 : O) (d d1 : D) (budget left turns : ℕ) (counts : TurnLaws) (less : left ≤ budget) where
-  pub untold_came : TurnsUntold {T = Unit {0}} text told r (o, d) (o1, d1) (budget - left) (Ok tt) → AnyGoRuns (told.size d) r turns (around r (told.sectors d) budget) (around new (told.sectors d1) left) (Ok tt) →
+  pub untold_came : TurnsUntold {T = Unit {0}} text told r (o, d) (o1, d1) (budget - left) (Ok tt) → AnyGoRuns (told.size d) r turns (run_around r (told.sectors d) budget) (run_around new (told.sectors d1) left) (Ok tt) →
       GoUntold {T = Unit {0}} text told r turns budget (o, d) (o1, d1) (Ok tt)
   untold_came so goes s k t wanted steps alone on fine comes here is more sum shelf =
       let x = outside_of r.machine.rows (told.size d) in
@@ -174,7 +174,7 @@ module _ {L O D : Type 0} (text : sink_of.Ghosts O) (told : sectors_of.Ghosts D)
 
   -- OR FAILED
   pub untold_failed : (T : Type 0) (f : RunFault) → TurnsUntold {T = T} text told r (o, d) (o1, d1) (budget - left) (Err f) →
-      AnyGoRuns (told.size d) r turns (around r (told.sectors d) budget) (around new (told.sectors d1) left) (Err f) → GoUntold {T = T} text told r turns budget (o, d) (o1, d1) (Err f)
+      AnyGoRuns (told.size d) r turns (run_around r (told.sectors d) budget) (run_around new (told.sectors d1) left) (Err f) → GoUntold {T = T} text told r turns budget (o, d) (o1, d1) (Err f)
   untold_failed T f so goes s k t wanted steps alone on fine comes here is more sum shelf =
       let x = outside_of r.machine.rows (told.size d) in
       by f x s t wanted steps (subst (λ i. BrokeOff x s i t (state_seen (told.sectors d1) new.machine) budget left f) more (goes s k t comes here is on)) sum shelf

@@ -5,8 +5,8 @@ use Rattle.cvm_outside.specs.declared.sink.Sink as sink_of
 use Rattle.cvm_outside.specs.declared.sectors.Sectors as sectors_of
 use Rattle.cvm_outside.specs.declared.sectors.DiskFault.{DiskFault}
 use Rattle.cvm_outside.specs.Script.{Call, TheDisk, Performs, Asks}
-use Rattle.cvm_outside.proofs.Follow.{both, first}
-use Rattle.cvm_outside.proofs.Putting.{same_script}
+use Rattle.cvm_outside.proofs.ScriptsFollow.{both, first}
+use Rattle.cvm_outside.proofs.RowsPut.{same_script}
 use Rattle.mips_table.specs.Machine.{State}
 use Rattle.schedule_file.specs.Rows.{Rows}
 use Rattle.mips_machine.specs.Steps.{outside_of}
@@ -22,10 +22,10 @@ use Rattle.boot_run.specs.LoadEnds.{Kept, IsFresh}
 use Rattle.boot_run.specs.LoadScript.{load_script}
 use Rattle.boot_run.specs.Loading.{system_of}
 use Rattle.boot_run.specs.Pieces.{Bootable, FirstAt}
-use Rattle.boot_run.specs.RunCalls.{run_at, begin_script, of_load, loads, LoadCalls, of_end, due_end, EndsBy, RestCalls, WholeScript}
+use Rattle.boot_run.specs.RunCalls.{run_at, begin_script, of_load, loads, LoadCalls, of_end, due_end, RunEndsBy, RestCalls, WholeScript}
 use Rattle.boot_run.specs.RunScript.{rest_script, run_script}
 use Rattle.boot_run.specs.Closing.{opening_script}
-use Rattle.boot_run.specs.TurnCalls.{around, Ready, StandsReady}
+use Rattle.boot_run.specs.TurnCalls.{run_around, ReadyAt, StandsReady}
 use Rattle.boot_run.proofs.ScriptParts.{at}
 
 -- A LOAD that writes its pages
@@ -82,8 +82,8 @@ whole_refused {O} {D} {T} text told y rows start view turns steps script o d d1 
 abbrev RestAt : {L O D : Type 0} → sink_of.Ghosts O → sectors_of.Ghosts D → Kept L → Booted → Rows → View → (size turns budget : ℕ) → O → D → O → D → RunEnd → Type 0
 RestAt text told r b rows v size turns budget o d o1 d1 e =
     (y : System) (s : State) (late held : ℕ) (old : List (List ℕ)) (k t wanted steps : ℕ) (c : Cvm) → Bootable b rows size y s late held old → FirstAt (outside_of rows size) s k t → 1 ≤ wanted → k + turns ≡ wanted → budget + t ≡ steps →
-    Ready (outside_of rows size) y s v k t c (around r (told.sectors d) budget) → c.status ≡ Running → (p : Past) → IsPast (run_at (outside_of rows size) y s v wanted steps) p →
-    EndsBy text told (o, d) (o1, d1) (begin_script (run_at (outside_of rows size) y s v wanted steps) k ++ rest_script (run_at (outside_of rows size) y s v wanted steps) p t) (due_end (run_at (outside_of rows size) y s v wanted steps) p) e
+    ReadyAt (outside_of rows size) y s v k t c (run_around r (told.sectors d) budget) → c.status ≡ Running → (p : Past) → IsPast (run_at (outside_of rows size) y s v wanted steps) p →
+    RunEndsBy text told (o, d) (o1, d1) (begin_script (run_at (outside_of rows size) y s v wanted steps) k ++ rest_script (run_at (outside_of rows size) y s v wanted steps) p t) (due_end (run_at (outside_of rows size) y s v wanted steps) p) e
 
 module _ {L O D : Type 0} (text : sink_of.Ghosts O) (told : sectors_of.Ghosts D) (layer : L) (b : Booted) (rows : Rows) (start : List (List ℕ) → State) (held need : ℕ) (view : View) (turns steps : ℕ) (script : List Call) (o o1 : O) (d d1 d2 : D) (r : Kept L) (e : RunEnd)
     (fresh : IsFresh layer b view rows need (told.size d) r) (size : told.size d1 ≡ told.size d) (some : 1 ≤ turns)
@@ -102,7 +102,7 @@ module _ {L O D : Type 0} (text : sink_of.Ghosts O) (told : sectors_of.Ghosts D)
         let y = system_of b rows in
         let rn : Run = run_at (outside_of rows (told.size d)) y (start sectors) view turns steps in
         let w = rest_at y (start sectors) (premises sectors is).0 held sectors 0 0 turns steps (first_cvm y) (premises sectors is).1 (record { before = λ j h. absurd (omega (arith, h)); on = λ j h. absurd (omega (arith, h)) }) some (omega arith) (omega arith)
-        (subst (λ (q : View). Ready (outside_of rows (told.size d)) y (start sectors) q 0 0 (first_cvm y) (around r (told.sectors d1) steps)) fresh.view_is (ready (outside_of rows (told.size d)) sectors steps is)) refl p past in (
+        (subst (λ (q : View). ReadyAt (outside_of rows (told.size d)) y (start sectors) q 0 0 (first_cvm y) (run_around r (told.sectors d1) steps)) fresh.view_is (ready (outside_of rows (told.size d)) sectors steps is)) refl p past in (
           λ shelf. same_script (script ++ (opening_script view y ++ rest_script rn p 0)) (run_script rn script p) (at text told shelf o d) (at text told shelf o1 d2) (of_end e) (sym (append_assoc script (opening_script view y) (rest_script rn p 0)))
               (both script (opening_script view y ++ rest_script rn p 0) (at text told shelf o d) (at text told shelf o d1) (at text told shelf o1 d2) (of_end e) (loaded.made refl shelf (output text o)) (w.made shelf)),
           w.is,

@@ -19,7 +19,7 @@ use Rattle.boot_turns.specs.Sooner.{ComesTo}
 use Rattle.boot_run.specs.declared.whole.RunEnd.{RunEnd}
 use Rattle.boot_run.specs.declared.whole.RunEnd.TheVariants.{Done, KernelFaulted, OutOfSteps}
 use Rattle.boot_run.specs.LoadEnds.{Kept}
-use Rattle.boot_run.specs.RunCalls.{run_at, EndsBy}
+use Rattle.boot_run.specs.RunCalls.{run_at, RunEndsBy, TurnsCall, GoCalls, RestCalls}
 use Rattle.boot_run.specs.RunScript.{AreReads}
 
 -- step number i from step number t on: the transfer that it makes, and a text; and n such steps
@@ -52,7 +52,7 @@ pub record EndsUntold {O D : Type 0} (text : sink_of.Ghosts O) (told : sectors_o
     Type 0 where
   pub report : List Call
   pub is_report : IsReport (power_end r) report
-  pub ends : EndsBy text told old new (untold_rest r t ++ report) (power_end r) end
+  pub ends : RunEndsBy text told old new (untold_rest r t ++ report) (power_end r) end
 
 -- TURNS of a loaded run, in n steps, from each step of each run, from any state, in which its machine stands: no user is traced, and it goes on
 abbrev pub TurnsUntold : {O D L T : Type 0} → sink_of.Ghosts O → sectors_of.Ghosts D → Kept L → (old new : O × D) → (n : ℕ) → Result T RunFault →
@@ -81,3 +81,19 @@ RestUntold text told r turns budget (out, disk) new end =
     ComesTo (outside_of r.machine.rows (told.size disk)) s k t → (run (outside_of r.machine.rows (told.size disk)) s t).off ≡ None →
     state_seen (told.sectors disk) r.machine ≡ Some (run (outside_of r.machine.rows (told.size disk)) s t) → k + turns ≡ wanted → budget + t ≡ steps →
     EndsUntold text told (out, disk) new (run_at (outside_of r.machine.rows (told.size disk)) y s Boot wanted steps) t end
+
+-- ALL THE CALLS of turns, of the loop over them, and of a run to its end: from any moment of a boot, and from any state of the machine
+pub record TurnsScript {O D L T : Type 0} (text : sink_of.Ghosts O) (told : sectors_of.Ghosts D) (r : Kept L) (budget : ℕ) (old new : O × D) (n : ℕ)
+    (result : Result T RunFault) : Type 0 where
+  pub boots : TurnsCall text told r budget old new n result
+  pub untold : TurnsUntold text told r old new n result
+
+pub record GoScript {O D L T : Type 0} (text : sink_of.Ghosts O) (told : sectors_of.Ghosts D) (r : Kept L) (turns budget : ℕ) (old new : O × D)
+    (result : Result T RunFault) : Type 0 where
+  pub boots : GoCalls text told r turns budget old new result
+  pub untold : GoUntold text told r turns budget old new result
+
+pub record RestScript {O D L : Type 0} (text : sink_of.Ghosts O) (told : sectors_of.Ghosts D) (r : Kept L) (turns budget : ℕ) (old new : O × D)
+    (end : RunEnd) : Type 0 where
+  pub boots : RestCalls text told r turns budget old new end
+  pub untold : RestUntold text told r turns budget old new end

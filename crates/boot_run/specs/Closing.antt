@@ -4,15 +4,15 @@ use Rattle.mips_table.specs.Machine.{State}
 use Rattle.mips_table.specs.Flat.{Flat}
 use Rattle.layer_map.specs.Map.{Map}
 use Rattle.cvm_model.specs.Cvm.{System, Cvm, Status, Faulted, map_of}
-use Rattle.cvm_model.specs.Kernel.{JournalEntry, parts_of}
+use Rattle.cvm_model.specs.Kernel.{JournalEntry, parts_of_value}
 use Rattle.cvm_model.specs.Primitives.{user_of, pages_of}
 use Rattle.cvm_model.specs.Text.{end_text, fault_name, globals_text, log_text, memory_text, hex_row, regs_text, nonzero_row, start_row, journal_rows, open_journal_rows}
 use Rattle.boot_turns.specs.declared.answers.View.{View}
 use Rattle.boot_turns.specs.declared.answers.View.TheVariants.{Boot, Trace}
 use Rattle.cvm_outside.specs.Script.{Call, Printed, scripts}
 use Rattle.boot_turns.specs.Runs.{Run, Past, state_at, steps_made, cvm_at}
-use Rattle.boot_turns.specs.StepScript.{page_reads, page_of}
-use Rattle.boot_turns.specs.TurnEnds.{first_of}
+use Rattle.boot_turns.specs.StepScript.{reads_of_page, page_of}
+use Rattle.boot_turns.specs.TurnEnds.{first_user_machine}
 
 -- a text is printed, by a call in any case
 abbrev pub says : List ℕ → List Call
@@ -21,11 +21,11 @@ says text = Printed (Some text) ∷ []
 -- before the first step: of a trace the row of the user's size
 abbrev pub opening_script : View → System → List Call
 opening_script Boot y = []
-opening_script (Trace u) y = says (start_row u (first_of y u))
+opening_script (Trace u) y = says (start_row u (first_user_machine y u))
 
 -- page p of user u is read where it is in no frame, and its rows are printed
-abbrev pub page_script : Map → State → (u : ℕ) → Flat → (p : ℕ) → List Call
-page_script m s u f p = page_reads m s (page_of m u p) ++ says (memory_text (1024 * p) (take 1024 (drop (1024 * p) f.words)))
+abbrev pub page_report_script : Map → State → (u : ℕ) → Flat → (p : ℕ) → List Call
+page_report_script m s u f p = reads_of_page m s (page_of m u p) ++ says (memory_text (1024 * p) (take 1024 (drop (1024 * p) f.words)))
 
 -- the rows of a user's processor
 abbrev pub cpu_text : (u : ℕ) → Flat → List ℕ
@@ -33,15 +33,15 @@ cpu_text u f = hex_row (codes "user " ++ decimal u ++ codes " pages " ++ decimal
     ++ regs_text 1 (drop 1 f.cpu.regs) ++ nonzero_row (codes "hi") f.cpu.hi ++ nonzero_row (codes "lo") f.cpu.lo
 
 -- a user: the rows of its processor, and its pages
-abbrev pub user_script : Map → State → (u : ℕ) → Flat → List Call
-user_script m s u f = says (cpu_text u f) ++ scripts (page_script m s u f) (pages_of f)
+abbrev pub user_report_script : Map → State → (u : ℕ) → Flat → List Call
+user_report_script m s u f = says (cpu_text u f) ++ scripts (page_report_script m s u f) (pages_of f)
 
 -- THE REPORT of a boot: the end row, the globals, the log, and all users; a kernel that faulted has none
 abbrev pub boot_report : System → State → Cvm → Status → List Call
 boot_report y s c (Faulted f) = []
 boot_report y s c other =
-    says (end_text other ++ globals_text y.boot.meaning.names (parts_of c.core.c0.global_values) ++ log_text c.core.console.log)
-    ++ scripts (λ i. user_script (map_of y.boot) s (i + 1) (user_of c.core.users (i + 1))) (length c.core.users)
+    says (end_text other ++ globals_text y.boot.meaning.names (parts_of_value c.core.c0.global_values) ++ log_text c.core.console.log)
+    ++ scripts (λ i. user_report_script (map_of y.boot) s (i + 1) (user_of c.core.users (i + 1))) (length c.core.users)
 
 -- the row of the last steps of a journal, if it ends with any
 abbrev pub last_steps : List JournalEntry → List ℕ
@@ -50,7 +50,7 @@ last_steps j = drop (length (open_journal_rows j)) (journal_rows j)
 -- THE REPORT of a trace: the row of its last steps, the end row and the user; or of a kernel that faulted the row of the fault
 abbrev pub trace_report : System → State → Cvm → (u : ℕ) → List JournalEntry → Status → List Call
 trace_report y s c u j (Faulted f) = says (last_steps j ++ codes "fault " ++ fault_name f ++ codes "\n")
-trace_report y s c u j other = says (last_steps j ++ end_text other) ++ user_script (map_of y.boot) s u (user_of c.core.users u)
+trace_report y s c u j other = says (last_steps j ++ end_text other) ++ user_report_script (map_of y.boot) s u (user_of c.core.users u)
 
 abbrev pub report_by : View → Run → Past → (t : ℕ) → List Call
 report_by Boot r p t = boot_report r.system (state_at r t) (cvm_at r p t) (cvm_at r p t).status

@@ -31,9 +31,9 @@ abbrev pub with_page : Pages → List (List ℕ) → ℕ → List (List ℕ)
 with_page p sectors q = if p.live q then slice_set sectors q (words_of_page p q) else sectors
 
 -- and once the pages of the first n numbers are written
-abbrev pub written : Pages → ℕ → List (List ℕ) → List (List ℕ)
-written p zero sectors = sectors
-written p (suc n) sectors = with_page p (written p n sectors) n
+abbrev pub pages_written : Pages → ℕ → List (List ℕ) → List (List ℕ)
+pages_written p zero sectors = sectors
+pages_written p (suc n) sectors = with_page p (pages_written p n sectors) n
 
 -- where they are told, all sectors but that of number n are as before
 abbrev pub StaysBut : ℕ → (told retold : Option (List (List ℕ))) → Type 0
@@ -53,10 +53,10 @@ pub record TornAmong (most : ℕ) (wanted : List (List ℕ) → List (List ℕ))
   pub calls : remade.calls ≡ calls_made live (suc at) made
 
 -- a machine whose memory has these words from a place on, and else is as before
-abbrev pub with_words : Held → (at : ℕ) → List ℕ → Held
-with_words held at words =
+abbrev pub holding_words : Held → (at : ℕ) → List ℕ → Held
+holding_words held at words =
     record held { hardware = record held.hardware { memory = take at held.hardware.memory ++ (words ++ drop (at + length words) held.hardware.memory) } }
 
 -- the machine with a ROM of these words in the frame behind so many, and at word 0 the jump to it, at its start
 abbrev pub with_rom : (frames : ℕ) → (rom : List ℕ) → Rows → Held
-with_rom frames rom rows = with_words (with_words (started (frames + 1) rows) 0 (encoding (J (1024 * frames)) ∷ [])) (1024 * frames) rom
+with_rom frames rom rows = holding_words (holding_words (started (frames + 1) rows) 0 (encoding (J (1024 * frames)) ∷ [])) (1024 * frames) rom

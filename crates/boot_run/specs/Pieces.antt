@@ -23,7 +23,7 @@ use Rattle.boot_run.specs.declared.whole.RunEnd.TheVariants as ends
 use Rattle.boot_run.specs.Loading.{system_of}
 use Rattle.boot_run.specs.LoadEnds.{Kept, pages_needed, rom_needed}
 use Rattle.boot_run.specs.SavedRuns.{IsDisk}
-use Rattle.boot_run.specs.TurnCalls.{Around, Ready}
+use Rattle.boot_run.specs.TurnCalls.{Around, ReadyAt}
 use Rattle.boot_run.specs.Whole.{rom_start_of}
 
 -- The premises of a run: what is booted under these rows, over a disk of so many sectors, which were `old` before the load. It
@@ -60,7 +60,7 @@ pub record Gone (x : Environment) (y : System) (s : State) (v : View) (turns ste
   pub count : ℕ
   pub at : ℕ
   pub past : Cvm
-  pub ready : Ready x y s v (suc count) at past after
+  pub ready : ReadyAt x y s v (suc count) at past after
   pub end : IsTurnEnd x s turns at
   pub within : at ≤ steps
 
@@ -84,7 +84,7 @@ GoRuns count r turns before after result =
     (y : System) (s : State) (late held : ℕ) (old : List (List ℕ)) (k t wanted steps : ℕ) (c : Cvm) →
     Bootable r.boot r.machine.rows count y s late held old →
     FirstAt (outside_of r.machine.rows count) s k t → 1 ≤ wanted → k + turns ≡ wanted → before.budget + t ≡ steps →
-    Ready (outside_of r.machine.rows count) y s r.view k t c before →
+    ReadyAt (outside_of r.machine.rows count) y s r.view k t c before →
     MatchResult result (λ _. Gone (outside_of r.machine.rows count) y s r.view wanted steps after)
     (GoFails (outside_of r.machine.rows count) s wanted steps after)
 

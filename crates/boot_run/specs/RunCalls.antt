@@ -29,7 +29,7 @@ use Rattle.boot_run.specs.RunScript.{rest_script, run_script, AreReads}
 use Rattle.boot_run.specs.Shown.{has_faulted}
 use Rattle.boot_run.specs.LoadEnds.{Kept}
 use Rattle.boot_run.specs.Pieces.{Bootable, FirstAt}
-use Rattle.boot_run.specs.TurnCalls.{around, Ready}
+use Rattle.boot_run.specs.TurnCalls.{run_around, ReadyAt}
 
 -- the run of a system from a start, viewed so, for so many turns and steps
 abbrev pub run_at : Environment → System → State → View → (turns steps : ℕ) → Run
@@ -73,7 +73,7 @@ abbrev pub TurnsPerform : {O D L T : Type 0} → sink_of.Ghosts O → sectors_of
 TurnsPerform text told run budget (out, disk) new n result =
     (u : CUnit) (y : System) (s : State) (late held : ℕ) (k t : ℕ) (c : Cvm) → y.boot ≡ boot_of run.boot →
     StartsFrom (IsTypedState u) (outside_of run.machine.rows (told.size disk)) y s late held →
-    Ready (outside_of run.machine.rows (told.size disk)) y s run.view k t c (around run (told.sectors disk) budget) →
+    ReadyAt (outside_of run.machine.rows (told.size disk)) y s run.view k t c (run_around run (told.sectors disk) budget) →
     c.status ≡ Running → (turns steps : ℕ) (p : Past) →
     TellsFrom (run_at (outside_of run.machine.rows (told.size disk)) y s run.view turns steps) p t (t + n) →
     MakesAs text told (out, disk) new (InTurns (run_at (outside_of run.machine.rows (told.size disk)) y s run.view turns steps) p k t n) result
@@ -89,7 +89,7 @@ abbrev pub ReportPerforms : {O D L T : Type 0} → sink_of.Ghosts O → sectors_
 ReportPerforms text told run (out, disk) new result =
     (budget : ℕ) (y : System) (s : State) (late held : ℕ) (k t : ℕ) (c : Cvm) → y.boot ≡ boot_of run.boot →
     StartsFrom (IsTypedState (unit_view run.boot.unit)) (outside_of run.machine.rows (told.size disk)) y s late held →
-    Ready (outside_of run.machine.rows (told.size disk)) y s run.view (suc k) t c (around run (told.sectors disk) budget) →
+    ReadyAt (outside_of run.machine.rows (told.size disk)) y s run.view (suc k) t c (run_around run (told.sectors disk) budget) →
     (turns steps : ℕ) (p : Past) → TellsFrom (run_at (outside_of run.machine.rows (told.size disk)) y s run.view turns steps) p t t →
     Makes text told (out, disk) new
     (report_script run.view (run_at (outside_of run.machine.rows (told.size disk)) y s run.view turns steps) p t c.status) of_run result
@@ -138,15 +138,15 @@ abbrev pub due_end : Run → Past → RunEnd
 due_end r p = end_by (has_ended r) (cvm_at r p (steps_made r)).status
 
 -- calls of a sink and a disk, by whom they blame
-abbrev pub Made : {O D : Type 0} → sink_of.Ghosts O → sectors_of.Ghosts D → (old new : O × D) → List Call → Option Who → Type 0
-Made text told (out, disk) (reout, redisk) script blamed = (shelf : Files) →
+abbrev pub CallsAreMade : {O D : Type 0} → sink_of.Ghosts O → sectors_of.Ghosts D → (old new : O × D) → List Call → Option Who → Type 0
+CallsAreMade text told (out, disk) (reout, redisk) script blamed = (shelf : Files) →
     Performs script (record { shelf = shelf; sink = output text out; disk = drive told disk })
     (record { shelf = shelf; sink = output text reout; disk = drive told redisk }) blamed
 
 -- A SCRIPT OF A WHOLE RUN is made, and the run ends as is due unless a call fails
-pub record EndsBy {O D : Type 0} (text : sink_of.Ghosts O) (told : sectors_of.Ghosts D) (old new : O × D) (script : List Call) (due end : RunEnd) :
+pub record RunEndsBy {O D : Type 0} (text : sink_of.Ghosts O) (told : sectors_of.Ghosts D) (old new : O × D) (script : List Call) (due end : RunEnd) :
     Type 0 where
-  pub made : Made text told old new script (of_end end)
+  pub made : CallsAreMade text told old new script (of_end end)
   pub is : of_end end ≡ None → end ≡ due
 
 -- THE CALLS OF THE LOOP over turns: from any moment at which turns are complete for the first time, of any boot of this kernel that stands there and
@@ -157,7 +157,7 @@ GoPerforms text told run turns budget (out, disk) new result =
     (y : System) (s : State) (late held : ℕ) (old : List (List ℕ)) (k t wanted steps : ℕ) (c : Cvm) →
     Bootable run.boot run.machine.rows (told.size disk) y s late held old → FirstAt (outside_of run.machine.rows (told.size disk)) s k t → 1 ≤ wanted →
     k + turns ≡ wanted → budget + t ≡ steps →
-    Ready (outside_of run.machine.rows (told.size disk)) y s run.view k t c (around run (told.sectors disk) budget) →
+    ReadyAt (outside_of run.machine.rows (told.size disk)) y s run.view k t c (run_around run (told.sectors disk) budget) →
     c.status ≡ Running → (p : Past) → IsPast (run_at (outside_of run.machine.rows (told.size disk)) y s run.view wanted steps) p →
     Makes text told (out, disk) new (turns_script (run_at (outside_of run.machine.rows (told.size disk)) y s run.view wanted steps) p k t
     (steps_made (run_at (outside_of run.machine.rows (told.size disk)) y s run.view wanted steps) - t)) of_run result
@@ -175,9 +175,9 @@ RestPerforms text told run turns budget (out, disk) new end =
     (y : System) (s : State) (late held : ℕ) (old : List (List ℕ)) (k t wanted steps : ℕ) (c : Cvm) →
     Bootable run.boot run.machine.rows (told.size disk) y s late held old → FirstAt (outside_of run.machine.rows (told.size disk)) s k t → 1 ≤ wanted →
     k + turns ≡ wanted → budget + t ≡ steps →
-    Ready (outside_of run.machine.rows (told.size disk)) y s run.view k t c (around run (told.sectors disk) budget) →
+    ReadyAt (outside_of run.machine.rows (told.size disk)) y s run.view k t c (run_around run (told.sectors disk) budget) →
     c.status ≡ Running → (p : Past) → IsPast (run_at (outside_of run.machine.rows (told.size disk)) y s run.view wanted steps) p →
-    EndsBy text told (out, disk) new (begin_script (run_at (outside_of run.machine.rows (told.size disk)) y s run.view wanted steps) k
+    RunEndsBy text told (out, disk) new (begin_script (run_at (outside_of run.machine.rows (told.size disk)) y s run.view wanted steps) k
     ++ rest_script (run_at (outside_of run.machine.rows (told.size disk)) y s run.view wanted steps) p t)
     (due_end (run_at (outside_of run.machine.rows (told.size disk)) y s run.view wanted steps) p) end
 
@@ -186,21 +186,21 @@ abbrev pub ClosePerforms : {O D L : Type 0} → sink_of.Ghosts O → sectors_of.
 ClosePerforms text told run (out, disk) new end =
     (budget : ℕ) (y : System) (s : State) (late held : ℕ) (k t : ℕ) (c : Cvm) → y.boot ≡ boot_of run.boot →
     StartsFrom (IsTypedState (unit_view run.boot.unit)) (outside_of run.machine.rows (told.size disk)) y s late held →
-    Ready (outside_of run.machine.rows (told.size disk)) y s run.view (suc k) t c (around run (told.sectors disk) budget) →
+    ReadyAt (outside_of run.machine.rows (told.size disk)) y s run.view (suc k) t c (run_around run (told.sectors disk) budget) →
     (turns steps : ℕ) (p : Past) → TellsFrom (run_at (outside_of run.machine.rows (told.size disk)) y s run.view turns steps) p t t →
-    EndsBy text told (out, disk) new (report_script run.view (run_at (outside_of run.machine.rows (told.size disk)) y s run.view turns steps) p t c.status)
+    RunEndsBy text told (out, disk) new (report_script run.view (run_at (outside_of run.machine.rows (told.size disk)) y s run.view turns steps) p t c.status)
     (end_by true c.status) end
 
 -- so it is; and over any disk calls that only read, and print: none where the kernel faulted
 pub record CloseCalls {O D L : Type 0} (text : sink_of.Ghosts O) (told : sectors_of.Ghosts D) (run : Kept L) (old new : O × D) (end : RunEnd) :
     Type 0 where
   pub exact : ClosePerforms text told run old new end
-  pub some : (script : List Call) × AreReads script × Made text told old new script (of_end end)
+  pub some : (script : List Call) × AreReads script × CallsAreMade text told old new script (of_end end)
   pub none : has_faulted run.ended ≡ true → new ≡ old
 
 -- some calls of a run are made, by whom they blame
 abbrev pub SomeMade : {O D : Type 0} → sink_of.Ghosts O → sectors_of.Ghosts D → (old new : O × D) → Option Who → Type 0
-SomeMade text told old new blamed = (script : List Call) × AreOfRun script × Made text told old new script blamed
+SomeMade text told old new blamed = (script : List Call) × AreOfRun script × CallsAreMade text told old new script blamed
 
 -- so it is; and some are made over any disk
 pub record RestCalls {O D L : Type 0} (text : sink_of.Ghosts O) (told : sectors_of.Ghosts D) (run : Kept L) (turns budget : ℕ) (old new : O × D)
@@ -214,17 +214,22 @@ of_answer (Ok end) = of_end end
 of_answer (Err fault) = of_load fault
 
 -- the end that an answer tells is the one that is due
-abbrev pub IsDue : Result RunEnd LoadFault → RunEnd → Type 0
-IsDue (Ok end) due = end ≡ due
-IsDue (Err fault) due = ⊤
+abbrev pub EndIsDue : Result RunEnd LoadFault → RunEnd → Type 0
+EndIsDue (Ok end) due = end ≡ due
+EndIsDue (Err fault) due = ⊤
 
--- THE CALLS OF A WHOLE BOOT OR TRACE, of a system from the start that these sectors make, and with the load of these pages: those of the run's script,
--- where the sectors are told; else the load's, and some calls of a run; and none where it is refused before the load
-pub record WholeScript {O D : Type 0} (text : sink_of.Ghosts O) (told : sectors_of.Ghosts D) (y : System) (rows : Rows) (start : List (List ℕ) → State)
-    (view : View) (turns steps : ℕ) (load : List Call) (old new : O × D) (result : Result RunEnd LoadFault) : Type 0 where
-  pub exact : loads result ≡ true → (sectors : List (List ℕ)) (p : Past) → told.sectors old.1 ≡ Some sectors →
-      IsPast (run_at (outside_of rows (told.size old.1)) y (start sectors) view turns steps) p →
-      Made text told old new (run_script (run_at (outside_of rows (told.size old.1)) y (start sectors) view turns steps) load p) (of_answer result)
-      × (of_answer result ≡ None → IsDue result (due_end (run_at (outside_of rows (told.size old.1)) y (start sectors) view turns steps) p))
-  pub some : loads result ≡ true → (more : List Call) × AreOfRun more × Made text told old new (load ++ more) (of_answer result)
-  pub none : loads result ≡ false → new ≡ old
+-- THE CALLS of a call that loads a run and makes it, where its load was begun: over sectors that are told those of its script, and it ends as is due unless
+-- a call fails; over others some; and none where it is refused before the load
+pub record BegunScript (Calls : List Call → Option Who → Type 0) (told : Option (List (List ℕ))) (started : List (List ℕ) → Run)
+    (scripted : Run → Past → List Call) (due : Run → Past → RunEnd) (Some_ Still : Type 0) (result : Result RunEnd LoadFault) : Type 0 where
+  pub exact : loads result ≡ true → (sectors : List (List ℕ)) (p : Past) → told ≡ Some sectors → IsPast (started sectors) p →
+      Calls (scripted (started sectors) p) (of_answer result) × (of_answer result ≡ None → EndIsDue result (due (started sectors) p))
+  pub some : loads result ≡ true → Some_
+  pub none : loads result ≡ false → Still
+
+-- OF A WHOLE BOOT OR TRACE, of a system from the start that these sectors make, and with the load of these pages
+abbrev pub WholeScript : {O D : Type 0} → sink_of.Ghosts O → sectors_of.Ghosts D → System → Rows → (start : List (List ℕ) → State) → View →
+    (turns steps : ℕ) → (load : List Call) → (old new : O × D) → Result RunEnd LoadFault → Type 0
+WholeScript text told y rows start view turns steps load old new result = BegunScript (CallsAreMade text told old new) (told.sectors old.1)
+    (λ sectors. run_at (outside_of rows (told.size old.1)) y (start sectors) view turns steps) (λ r. run_script r load) due_end
+    ((more : List Call) × AreOfRun more × CallsAreMade text told old new (load ++ more) (of_answer result)) (new ≡ old) result

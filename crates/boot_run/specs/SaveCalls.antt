@@ -1,5 +1,5 @@
 -- THE SCRIPT OF SAVED RUNS: of a boot that is to be saved, which stops where it goes on, and else is closed.
-use Rattle.std.specs.Prelude.{◌≡◌, ℕ, suc, ◌+◌, ◌-◌, ◌≤◌, ⊤, Bool, true, false, if◌then◌else◌, Option, Some, None, List, [], ◌++◌, Result, Ok, Err}
+use Rattle.std.specs.Prelude.{◌≡◌, ℕ, suc, ◌+◌, ◌-◌, ◌≤◌, Bool, true, if◌then◌else◌, List, [], ◌++◌, Result, Ok, Err}
 use Rattle.mips_table.specs.Machine.{State}
 use Rattle.schedule_file.specs.Rows.{Rows}
 use Rattle.mips_machine.specs.Steps.{outside_of}
@@ -7,7 +7,7 @@ use Rattle.c0_tree.specs.View.{unit_view}
 use Rattle.c0_meaning.specs.TypedState.{IsTypedState}
 use Rattle.cvm_outside.specs.declared.sink.Sink as sink_of
 use Rattle.cvm_outside.specs.declared.sectors.Sectors as sectors_of
-use Rattle.cvm_outside.specs.Script.{Call, Who}
+use Rattle.cvm_outside.specs.Script.{Call}
 use Rattle.cvm_model.specs.Cvm.{System, Status, Running, Cvm}
 use Rattle.layer_contract.specs.Boots.{boot_of}
 use Rattle.boot_turns.specs.Premises.{StartsFrom}
@@ -21,8 +21,8 @@ use Rattle.boot_run.specs.declared.whole.RunEnd.TheVariants.{Stopped}
 use Rattle.boot_run.specs.Closing.{closing_script}
 use Rattle.boot_run.specs.LoadEnds.{Kept}
 use Rattle.boot_run.specs.Pieces.{Bootable, FirstAt}
-use Rattle.boot_run.specs.RunCalls.{run_at, begin_script, report_script, TellsFrom, of_load, loads, of_end, end_by, EndsBy, Made, SomeMade}
-use Rattle.boot_run.specs.TurnCalls.{around, Ready}
+use Rattle.boot_run.specs.RunCalls.{run_at, begin_script, report_script, TellsFrom, of_end, end_by, RunEndsBy, CallsAreMade, SomeMade, of_answer, BegunScript}
+use Rattle.boot_run.specs.TurnCalls.{run_around, ReadyAt}
 
 -- nothing where a run goes on, and else what closes it
 abbrev pub unless_on : Status → List Call → List Call
@@ -47,9 +47,9 @@ abbrev pub StopPerforms : {O D L : Type 0} → sink_of.Ghosts O → sectors_of.G
 StopPerforms text told run (out, disk) new end =
     (budget : ℕ) (y : System) (s : State) (late held : ℕ) (k t : ℕ) (c : Cvm) → y.boot ≡ boot_of run.boot →
     StartsFrom (IsTypedState (unit_view run.boot.unit)) (outside_of run.machine.rows (told.size disk)) y s late held →
-    Ready (outside_of run.machine.rows (told.size disk)) y s run.view (suc k) t c (around run (told.sectors disk) budget) →
+    ReadyAt (outside_of run.machine.rows (told.size disk)) y s run.view (suc k) t c (run_around run (told.sectors disk) budget) →
     (turns steps : ℕ) (p : Past) → TellsFrom (run_at (outside_of run.machine.rows (told.size disk)) y s run.view turns steps) p t t →
-    EndsBy text told (out, disk) new
+    RunEndsBy text told (out, disk) new
     (unless_on c.status (report_script run.view (run_at (outside_of run.machine.rows (told.size disk)) y s run.view turns steps) p t c.status))
     (stop_by true c.status) end
 
@@ -64,9 +64,9 @@ ToStopPerforms text told run turns budget (out, disk) new end =
     (y : System) (s : State) (late held : ℕ) (old : List (List ℕ)) (k t wanted steps : ℕ) (c : Cvm) →
     Bootable run.boot run.machine.rows (told.size disk) y s late held old → FirstAt (outside_of run.machine.rows (told.size disk)) s k t → 1 ≤ wanted →
     k + turns ≡ wanted → budget + t ≡ steps →
-    Ready (outside_of run.machine.rows (told.size disk)) y s run.view k t c (around run (told.sectors disk) budget) →
+    ReadyAt (outside_of run.machine.rows (told.size disk)) y s run.view k t c (run_around run (told.sectors disk) budget) →
     c.status ≡ Running → (p : Past) → IsPast (run_at (outside_of run.machine.rows (told.size disk)) y s run.view wanted steps) p →
-    EndsBy text told (out, disk) new (begin_script (run_at (outside_of run.machine.rows (told.size disk)) y s run.view wanted steps) k
+    RunEndsBy text told (out, disk) new (begin_script (run_at (outside_of run.machine.rows (told.size disk)) y s run.view wanted steps) k
     ++ stop_script (run_at (outside_of run.machine.rows (told.size disk)) y s run.view wanted steps) p t)
     (due_stop (run_at (outside_of run.machine.rows (told.size disk)) y s run.view wanted steps) p) end
 
@@ -75,21 +75,14 @@ pub record ToStopCalls {O D L : Type 0} (text : sink_of.Ghosts O) (told : sector
   pub exact : ToStopPerforms text told run turns budget old new end
   pub some : SomeMade text told old new (of_end end)
 
--- whom an answer blames of a call that loads a run to be saved, and whether its end is the one that is due
-abbrev pub of_save : {L : Type 0} → Result (Kept L × RunEnd) LoadFault → Option Who
-of_save (Ok (run, end)) = of_end end
-of_save (Err fault) = of_load fault
-
-abbrev pub IsDueStop : {L : Type 0} → Result (Kept L × RunEnd) LoadFault → RunEnd → Type 0
-IsDueStop (Ok (run, end)) due = end ≡ due
-IsDueStop (Err fault) due = ⊤
+-- how a run ended that is to be saved
+abbrev pub end_of_save : {L : Type 0} → Result (Kept L × RunEnd) LoadFault → Result RunEnd LoadFault
+end_of_save (Ok (run, end)) = Ok end
+end_of_save (Err fault) = Err fault
 
 -- THE CALLS OF A BOOT THAT IS TO BE SAVED, as those of a whole boot
-pub record SaveScript {O D L : Type 0} (text : sink_of.Ghosts O) (told : sectors_of.Ghosts D) (y : System) (rows : Rows) (start : List (List ℕ) → State)
-    (turns steps : ℕ) (load : List Call) (old new : O × D) (result : Result (Kept L × RunEnd) LoadFault) : Type 0 where
-  pub exact : loads result ≡ true → (sectors : List (List ℕ)) (p : Past) → told.sectors old.1 ≡ Some sectors →
-      IsPast (run_at (outside_of rows (told.size old.1)) y (start sectors) Boot turns steps) p →
-      Made text told old new (load ++ stop_script (run_at (outside_of rows (told.size old.1)) y (start sectors) Boot turns steps) p 0) (of_save result)
-      × (of_save result ≡ None → IsDueStop result (due_stop (run_at (outside_of rows (told.size old.1)) y (start sectors) Boot turns steps) p))
-  pub some : loads result ≡ true → (more : List Call) × AreOfRun more × Made text told old new (load ++ more) (of_save result)
-  pub none : loads result ≡ false → new ≡ old
+abbrev pub SaveScript : {O D L : Type 0} → sink_of.Ghosts O → sectors_of.Ghosts D → System → Rows → (start : List (List ℕ) → State) → (turns steps : ℕ) →
+    (load : List Call) → (old new : O × D) → Result (Kept L × RunEnd) LoadFault → Type 0
+SaveScript text told y rows start turns steps load old new result = BegunScript (CallsAreMade text told old new) (told.sectors old.1)
+    (λ sectors. run_at (outside_of rows (told.size old.1)) y (start sectors) Boot turns steps) (λ r p. load ++ stop_script r p 0) due_stop
+    ((more : List Call) × AreOfRun more × CallsAreMade text told old new (load ++ more) (of_answer (end_of_save result))) (new ≡ old) (end_of_save result)

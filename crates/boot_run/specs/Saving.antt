@@ -16,7 +16,7 @@ use Rattle.boot_run.specs.declared.whole.RunEnd.TheVariants.{Stopped}
 use Rattle.boot_run.specs.Loading.{system_of}
 use Rattle.boot_run.specs.LoadEnds.{Kept}
 use Rattle.boot_run.specs.SavedRuns.{SavedAt}
-use Rattle.boot_run.specs.TurnCalls.{Around, around, Ready}
+use Rattle.boot_run.specs.TurnCalls.{Around, run_around, ReadyAt}
 use Rattle.boot_run.specs.Pieces.{Bootable, FirstAt}
 
 -- the words of a saved run: those of its machine, among which no sector stands, with its complete turns and its current user
@@ -25,8 +25,8 @@ saved_run r = saved r.machine.rows.inputs (state_of r.machine []) r.turns r.curr
 
 -- WHERE A RUN THAT IS TO BE SAVED STOPS, from `s`: these words are those of its machine there, and these sectors its own. Of one that ends nothing is
 -- said
-abbrev pub Stops : Environment → System → State → (turns steps : ℕ) → (words : List ℕ) → (now : List (List ℕ)) → RunEnd → Type 0
-Stops x y s turns steps words now end = end ≡ Stopped → (shown : List ℕ) × SavedAt x y s turns steps words now shown
+abbrev pub SaveStops : Environment → System → State → (turns steps : ℕ) → (words : List ℕ) → (now : List (List ℕ)) → RunEnd → Type 0
+SaveStops x y s turns steps words now end = end ≡ Stopped → (shown : List ℕ) × SavedAt x y s turns steps words now shown
 
 -- so it is of a loaded run, from any moment at which turns are complete for the first time
 abbrev pub RunsToStop : {L : Type 0} → (count : ℕ) → (r new : Kept L) → (turns : ℕ) → (before : Around) → (retold : Option (List (List ℕ))) → RunEnd →
@@ -35,12 +35,12 @@ RunsToStop count r new turns before retold result =
     (s : State) (late held : ℕ) (old : List (List ℕ)) (k t wanted total : ℕ) (c : Cvm) (now : List (List ℕ)) →
     Bootable r.boot r.machine.rows count (system_of r.boot r.machine.rows) s late held old → r.view ≡ Boot →
     FirstAt (outside_of r.machine.rows count) s k t → 1 ≤ wanted → k + turns ≡ wanted → before.budget + t ≡ total →
-    Ready (outside_of r.machine.rows count) (system_of r.boot r.machine.rows) s r.view k t c before → retold ≡ Some now →
-    Stops (outside_of r.machine.rows count) (system_of r.boot r.machine.rows) s wanted total (saved_run new) now result
+    ReadyAt (outside_of r.machine.rows count) (system_of r.boot r.machine.rows) s r.view k t c before → retold ≡ Some now →
+    SaveStops (outside_of r.machine.rows count) (system_of r.boot r.machine.rows) s wanted total (saved_run new) now result
 
 -- and of a call that loads one, with the run
 abbrev pub AnswerStops : {L : Type 0} → Environment → System → State → (turns steps : ℕ) → (now : List (List ℕ)) → Result (Kept L × RunEnd) LoadFault → Type 0
-AnswerStops x y s turns steps now (Ok (r, e)) = Stops x y s turns steps (saved_run r) now e
+AnswerStops x y s turns steps now (Ok (r, e)) = SaveStops x y s turns steps (saved_run r) now e
 AnswerStops x y s turns steps now (Err fault) = ⊤
 
 -- for what is booted, a schedule's rows and a disk of so many sectors, where it tells them before and after
@@ -75,7 +75,7 @@ StaysThere run disk out new redisk reout end = end ≡ Stopped → (run.ended �
 module _ {D : Type 0} (size : D → ℕ) (sectors : D → Option (List (List ℕ))) where
   -- a loaded run is run to where it can be saved
   abbrev pub RunStops : {L : Type 0} → (turns steps : ℕ) → Kept L → D → Kept L → D → RunEnd → Type 0
-  RunStops turns steps run disk new redisk result = RunsToStop (size disk) run new turns (around run (sectors disk) steps) (sectors redisk) result
+  RunStops turns steps run disk new redisk result = RunsToStop (size disk) run new turns (run_around run (sectors disk) steps) (sectors redisk) result
 
 -- what is booted over such a disk, under a schedule, is run so
 abbrev pub StopsSaved : {L D : Type 0} → (size : D → ℕ) → (sectors : D → Option (List (List ℕ))) → Booted → Rows → (turns steps : ℕ) → D → D →

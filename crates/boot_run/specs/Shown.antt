@@ -1,5 +1,6 @@
 -- Who is next, as the machine shows it at the end of a turn.
 use Rattle.std.specs.Prelude.{ℕ, Bool, true, false, ◌==◌, if◌then◌else◌, Option, Some, None}
+use Rattle.cvm_model.specs.Cvm.{Status, Running, Halted, Faulted, status_of}
 use Rattle.cvm_model.specs.declared.kernel_fault.KernelFault.{KernelFault}
 use Rattle.cvm_model.specs.declared.kernel_fault.KernelFault.TheVariants.{NullUse, Bounds, DivZero, StackOut, BadUser}
 use Rattle.cvm_model.specs.declared.row.Next.{Next}
@@ -19,11 +20,15 @@ abbrev pub next_shown : Option ℕ → ℕ → Next
 next_shown None current = User current
 next_shown (Some power) current = if power == 0 then Halt else Fault (fault_of_power power)
 
--- how a run has ended with this next, if it has
+-- how a run has ended with this status, if it has
+abbrev pub ended_of : Status → Option Next
+ended_of Running = None
+ended_of Halted = Some Halt
+ended_of (Faulted f) = Some (Fault f)
+
+-- and with this next
 abbrev pub end_of_next : Next → Option Next
-end_of_next (User u) = None
-end_of_next Halt = Some Halt
-end_of_next (Fault f) = Some (Fault f)
+end_of_next next = ended_of (status_of next)
 
 -- whether it has ended by a fault of the kernel
 abbrev pub has_faulted : Option Next → Bool

@@ -24,7 +24,7 @@ use Rattle.boot_turns.specs.Tracing.{TraceRuns}
 use Rattle.boot_run.specs.LoadEnds.{Kept, viewed}
 use Rattle.boot_run.specs.RunEnds.{SeesUser}
 use Rattle.boot_run.specs.Shown.{next_shown, end_of_next}
-use Rattle.boot_run.specs.TurnCalls.{rows_of}
+use Rattle.boot_run.specs.TurnCalls.{rows_of_turn}
 
 -- what is viewed is what a tracer is kept for: a boot, or one of the users
 pub record Views {L : Type 0} (r : Kept L) : Type 0 where
@@ -54,7 +54,7 @@ fault_rows n other = []
 
 -- what is printed after a turn: of a boot the row of its dispatch, of a trace the kernel's fault
 abbrev pub rows_after : Option Tracer → Option Next → Turn → List ℕ
-rows_after None ended answer = rows_text (rows_of answer)
+rows_after None ended answer = rows_text (rows_of_turn answer)
 rows_after (Some kept) ended answer = fault_rows kept.steps ended
 
 -- who is next, as a machine shows it
@@ -66,15 +66,15 @@ abbrev pub count_on : ℕ → ℕ → ℕ
 count_on turns n = min (turns + n) (2 ^ 64 - 1)
 
 -- what turn k was, by what was noted of its begin, the user and who is next
-abbrev pub answer_of : ℕ → (user : ℕ) → Begun → Next → Turn
-answer_of k user b next = if b.dispatched then Dispatch (record { turn = k; cause = b.cause; edata = b.edata; user = user; next = next }) else Step user
+abbrev pub turn_answer : ℕ → (user : ℕ) → Begun → Next → Turn
+turn_answer k user b next = if b.dispatched then Dispatch (record { turn = k; cause = b.cause; edata = b.edata; user = user; next = next }) else Step user
 
 -- a turn is counted that came after so many untrapped steps, began so, and answered
-pub record Counted {L : Type 0} (old new : Kept L) (skipped : ℕ) (b : Begun) (answer : Turn) : Type 0 where
+pub record TurnCounted {L : Type 0} (old new : Kept L) (skipped : ℕ) (b : Begun) (answer : Turn) : Type 0 where
   pub turns : new.turns ≡ count_on (count_on old.turns skipped) 1
   pub current : new.current ≡ slice_index new.machine.hardware.memory current_at
   pub ended : new.ended ≡ end_of_next (next_of_held new.machine)
-  pub is : answer ≡ answer_of (count_on old.turns skipped) old.current b (next_of_held new.machine)
+  pub is : answer ≡ turn_answer (count_on old.turns skipped) old.current b (next_of_held new.machine)
 
 -- what the machine did, and what is kept of a trace, over a disk of so many sectors, with these budgets; a boot prints nothing yet
 pub record Moved {L : Type 0} (count : ℕ) (old new : Kept L) (most : ℕ) (told retold : Option (List (List ℕ))) (budget left : ℕ)
@@ -89,5 +89,5 @@ pub record Moved {L : Type 0} (count : ℕ) (old new : Kept L) (most : ℕ) (tol
 abbrev pub MakesTurn : {L : Type 0} → (count : ℕ) → (old new : Kept L) → (most : ℕ) → (told retold : Option (List (List ℕ))) → (budget left : ℕ) →
     Result (ℕ × Turn) RunFault → Type 0
 MakesTurn count old new most told retold budget left result = MatchResult result
-    (λ r. (n : ℕ) × (b : Begun) × (r.0 ≡ n + 1) × Moved count old new most told retold budget left (Ok (n, b)) × Counted old new n b r.1)
+    (λ r. (n : ℕ) × (b : Begun) × (r.0 ≡ n + 1) × Moved count old new most told retold budget left (Ok (n, b)) × TurnCounted old new n b r.1)
     (λ fault. Moved count old new most told retold budget left (Err fault) × (new.ended ≡ old.ended))

@@ -4,7 +4,7 @@ use Rattle.std.specs.Option.{option_map}
 use Rattle.cvm_outside.specs.Causes.{Counts}
 use Rattle.cvm_outside.specs.Numbering.{Tally, tally}
 use Rattle.page_model.specs.Paging.{Pages}
-use Rattle.boot_run.specs.Loading.{StaysBut, TornAmong, with_page, written}
+use Rattle.boot_run.specs.Loading.{StaysBut, TornAmong, with_page, pages_written}
 use Rattle.boot_run.specs.LoadedPages.{calls_made, with_call}
 
 -- each of so many users has pages, at least one, and the numbers of all pages are words
@@ -43,5 +43,6 @@ module _ {D : Type 0} (size : D → ℕ) (sectors : D → Option (List (List ℕ
   -- of the pages of the numbers below `most`
   abbrev pub WritesPages : {A E : Type 0} → Pages → (most : ℕ) → (disk redisk : D) → Result A E → Type 0
   WritesPages p most disk redisk result =
-      Writes (written p most) (λ made. calls_made p.live most made) (λ told retold made remade. TornAmong most (written p most) told retold p.live made remade)
+      Writes (pages_written p most) (λ made. calls_made p.live most made)
+      (λ told retold made remade. TornAmong most (pages_written p most) told retold p.live made remade)
       disk redisk result

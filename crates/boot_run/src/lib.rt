@@ -3,11 +3,11 @@
 #![tactic(auto)]
 
 mod laws;
+mod layout;
 mod load;
 mod next;
 mod pages;
 mod pasts;
-mod places;
 mod report;
 mod resuming;
 mod run;

@@ -6,7 +6,7 @@ ghost use Rattle.cvm_model.specs.Cvm.{map_of};
 ghost use Rattle.layer_contract.specs.Boots.{boot_of, BootFollows};
 ghost use Rattle.mips_machine.specs.Machine.{started};
 ghost use Rattle.boot_turns.specs.Rom.{own_rom};
-ghost use Rattle.boot_run.specs.Loading.{system_of, with_words, with_rom};
+ghost use Rattle.boot_run.specs.Loading.{system_of, holding_words, with_rom};
 ghost use Rattle.boot_run.specs.declared.load.LoadFault.TheVariants.{Memory as NoRoom, SmallDisk as NoSpace};
 ghost use Rattle.boot_run.specs.LoadEnds.{first_tracer, pages_needed, rom_needed};
 ghost use Rattle.boot_run.specs.RunEnds.{SeesUser};
@@ -150,7 +150,7 @@ pub(crate) fn loaded_machine(
 ) -> Result<Machine, AllocError>
     requires range { MapInRange map.now }
     requires map { map.now ≡ map_of (boot_of boot.now) }
-    ensures { IfOk result (λ m. m ≡ with_words (started (memory_frames (map_of (boot_of boot.now))) schedule) 0 boot.now.words.items) }
+    ensures { IfOk result (λ m. m ≡ holding_words (started (memory_frames (map_of (boot_of boot.now))) schedule) 0 boot.now.words.items) }
 {
     let mut machine = Machine::new(alloc, map.memory_frames(), schedule)?;
     put_words(&mut machine, 0, boot.words.as_slice());

@@ -1,8 +1,8 @@
 // The users' pages, written to their sectors, and the linked words, written into memory.
 ghost use Rattle.std.specs.Prelude.{◌≡◌, ℕ, ◌+◌, ◌<◌, ◌≤◌, ◌^◌, length, slice_index};
-ghost use Rattle.boot_run.specs.Loading.{pages_of_users, with_words};
+ghost use Rattle.boot_run.specs.Loading.{pages_of_users, holding_words};
 ghost use Rattle.cvm_outside.specs.Script.{Asks};
-ghost use Rattle.boot_run.specs.LoadScript.{page_script, load_script};
+ghost use Rattle.boot_run.specs.LoadScript.{page_write_script, load_script};
 ghost use Rattle.boot_run.specs.Writes.{HavePages, IsSource, WritesPage, WritesPages};
 
 use cvm_outside::{DiskFault, Sectors};
@@ -59,7 +59,7 @@ fn write_page<D: Sectors>(
     requires pages { HavePages per (length users.now) }
     requires inside { q < D.size disk.old }
     ensures writes { WritesPage D.size D.sectors D.faults D.calls (pages_of_users per users.now behind.now) q disk.old disk.new result }
-    ensures script { Asks D.Sectors disk.old disk.new (page_script (pages_of_users per users.now behind.now) q) result }
+    ensures script { Asks D.Sectors disk.old disk.new (page_write_script (pages_of_users per users.now behind.now) q) result }
 {
     let (words, first) = page_source(users, per, behind, q);
     if first < words.len() {
@@ -96,7 +96,7 @@ pub(crate) fn write_pages<D: Sectors>(
 pub(crate) fn put_words(machine: &mut Machine, at: u32, words: &[u32])
     requires room { at + length words.now ≤ length machine.old.hardware.memory }
     requires small { at + length words.now < 2 ^ 30 }
-    ensures { machine.new ≡ with_words machine.old at words.now }
+    ensures { machine.new ≡ holding_words machine.old at words.now }
 {
     for (i, word) in words.iter().enumerate() {
         machine.set_word(4 * (at + i as u32), *word);

@@ -1,7 +1,7 @@
 // The end and the report of a run, printed from its machine.
 ghost use Rattle.std.specs.Prelude.{◌≡◌, ◌≢◌, ◌++◌, length, Err};
 ghost use Rattle.cvm_model.specs.Text.{steps_row as steps_text};
-ghost use Rattle.boot_report.specs.Globals.{AreInside, GlobalsStand};
+ghost use Rattle.boot_report.specs.Globals.{GlobalsAreInside, GlobalsStand};
 ghost use Rattle.boot_report.specs.Texts.{end_row};
 ghost use Rattle.boot_run.specs.Report.{kernel_rows, runs_now, closing_calls, trace_calls};
 ghost use Rattle.boot_report.specs.Scripts.{of_report};
@@ -9,7 +9,7 @@ ghost use Rattle.cvm_outside.specs.Script.{Makes, Prints, blame};
 ghost use Rattle.boot_turns.specs.RowScripts.{of_run};
 ghost use Rattle.boot_report.specs.Stand.{CanReadUser, CanReadUsers};
 
-use crate::places::Places;
+use crate::layout::BootLayout;
 use boot_report::journal_text::steps_row;
 use boot_report::{ReportFault, put_end, put_globals, put_log, put_user_rows, put_users};
 use boot_turns::RunFault;
@@ -23,16 +23,16 @@ use mips_machine::Machine;
 // Prints the end, the globals and the console's log.
 fn put_kernel<O: Sink>(
     machine: &Machine,
-    places: &Places,
+    layout: &BootLayout,
     decls: &[Decl],
     halted: bool,
     out: &mut O,
 ) -> Result<(), SinkFault>
-    requires { GlobalsStand places.now.map (length machine.now.hardware.memory) places.now.offsets.items (length decls.now) }
-    ensures { Prints O.Sink out.old out.new (kernel_rows halted machine.now places.now.map places.now.offsets.items decls.now) result }
+    requires { GlobalsStand layout.now.map (length machine.now.hardware.memory) layout.now.offsets.items (length decls.now) }
+    ensures { Prints O.Sink out.old out.new (kernel_rows halted machine.now layout.now.map layout.now.offsets.items decls.now) result }
 {
     put_end(halted, out)?;
-    put_globals(machine, &places.map, &places.offsets, decls, out)?;
+    put_globals(machine, &layout.map, &layout.offsets, decls, out)?;
     put_log(machine.log(), out)?;
     Ok(())
 }
@@ -60,21 +60,21 @@ fn runs_now(standing: Standing) -> u32
 // A fault of the disk or of the sink.
 pub(crate) fn put_closing<D: Sectors, O: Sink>(
     machine: &Machine,
-    places: &Places,
+    layout: &BootLayout,
     decls: &[Decl],
     standing: Standing,
     disk: &mut D,
     out: &mut O,
 ) -> Result<(), ReportFault>
-    requires many { length places.now.offsets.items ≡ length decls.now }
-    requires users { CanReadUsers places.now.map (length machine.now.hardware.memory) (D.size disk.old) }
-    requires inside { AreInside places.now.map places.now.offsets.items }
+    requires many { length layout.now.offsets.items ≡ length decls.now }
+    requires users { CanReadUsers layout.now.map (length machine.now.hardware.memory) (D.size disk.old) }
+    requires inside { GlobalsAreInside layout.now.map layout.now.offsets.items }
     ensures { Makes O.Sink D.Sectors (out.old, disk.old) (out.new, disk.new)
-        (closing_calls standing.halted standing.current machine.now (D.sectors disk.old) places.now decls.now) of_report result }
+        (closing_calls standing.halted standing.current machine.now (D.sectors disk.old) layout.now decls.now) of_report result }
 {
-    put_kernel(machine, places, decls, standing.halted, out)?;
+    put_kernel(machine, layout, decls, standing.halted, out)?;
     let running = runs_now(standing);
-    put_users(machine, &places.map, running, disk, out)
+    put_users(machine, &layout.map, running, disk, out)
 }
 
 // Prints the row of a trace's last steps, where there are any, and the end.

@@ -4,8 +4,7 @@ ghost use Rattle.layer_map.specs.Map.{memory_words};
 ghost use Rattle.mips_machine.specs.Machine.{state_of};
 ghost use Rattle.mips_machine.specs.Saved.{saved, AreSaved, CanBeSaved};
 ghost use Rattle.boot_run.specs.OneTurn.{CanClose};
-ghost use Rattle.boot_run.specs.AnyScripts.{RestUntold};
-ghost use Rattle.boot_run.specs.RunCalls.{RestCalls};
+ghost use Rattle.boot_run.specs.AnyScripts.{RestScript};
 ghost use Rattle.boot_run.specs.SavedFiles.{SavedBootsAreOfRuns};
 ghost use Rattle.boot_run.specs.RunEnds.{EndsUnsaved};
 
@@ -80,9 +79,7 @@ pub fn run_on<L: Layer + Drop, D: Sectors, O: Sink>(
     requires can { CanClose run.old (D.size disk.old) }
     requires done { run.old.turns ≤ limits.turns }
     ensures ends { EndsUnsaved result }
-    ensures script { RestCalls O.Sink D.Sectors run.old (limits.turns - run.old.turns) (limits.steps - run.old.machine.time)
-        (out.old, disk.old) (out.new, disk.new) result }
-    ensures untold { RestUntold O.Sink D.Sectors run.old (limits.turns - run.old.turns) (limits.steps - run.old.machine.time)
+    ensures script { RestScript O.Sink D.Sectors run.old (limits.turns - run.old.turns) (limits.steps - run.old.machine.time)
         (out.old, disk.old) (out.new, disk.new) result }
 {
     let turns = turns_left(run, limits.turns);

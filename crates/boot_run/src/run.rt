@@ -13,25 +13,25 @@ ghost use Rattle.boot_run.specs.Loaded.{IsLoaded, LoadTorn, boot_load, rom_load}
 ghost use Rattle.boot_run.specs.LoadedPages.{user_pages, rom_pages};
 ghost use Rattle.boot_run.specs.Loading.{system_of};
 ghost use Rattle.boot_run.specs.LoadScript.{load_script};
-ghost use Rattle.boot_run.specs.AnyScripts.{TurnsUntold};
+ghost use Rattle.boot_run.specs.AnyScripts.{TurnsScript};
 ghost use Rattle.boot_run.specs.RunCalls.{LoadCalls, ReportCalls, TurnsCall};
 ghost use Rattle.boot_run.specs.Calls.{MakesTurns, Proceeds, ProceedsAnyhow};
 ghost use Rattle.boot_run.specs.OneTurn.{CanMake, TurnsMake, ReportLeaves, TurnsSay, as_turns};
 ghost use Rattle.boot_run.specs.Pieces.{AreBoots};
 ghost use Rattle.boot_run.specs.Saving.{saved_run, IsTakenUp};
 ghost use Rattle.boot_run.specs.Shown.{has_faulted};
-ghost use Rattle.boot_run.specs.TurnCalls.{rows_of};
+ghost use Rattle.boot_run.specs.TurnCalls.{rows_of_turn};
 ghost use Rattle.boot_run.specs.TurnParts.{rows_before, rows_after, Views};
 ghost use Rattle.cvm_model.specs.declared.row.Row.{Row as OneRow};
 
 use crate::laws::systems_can_boot;
+use crate::layout::{BootLayout, boot_layout};
 use crate::load::{
     LoadFault, Setup, check_room, check_view, first_tracer, loaded_machine, own_rom, pages_needed,
     rom_machine, rom_needed,
 };
 use crate::next::{ended_by, has_faulted, seen_next};
 use crate::pages::write_pages;
-use crate::places::{Places, places_of};
 use crate::report::{Standing, as_run, put_closing, put_trace_closing};
 use crate::resuming::resumed_machine;
 use crate::turn_rows::{put_fault, put_row, put_start};
@@ -63,7 +63,7 @@ pub struct Run<L> {
     current: u32,
     ended: Option<Next>,
     fault: Option<RunFault>,
-    places: Places,
+    layout: BootLayout,
 }
 
 impl<L> Model for Run<L> {
@@ -89,7 +89,7 @@ impl<L> Model for Run<L> {
       tracer = r.tracer;
     } };
 
-    ghost invariant = { λ r. CanGoOn r.boot r.machine r.places.map r.places.offsets.items r.count r.tracer };
+    ghost invariant = { λ r. CanGoOn r.boot r.machine r.layout.map r.layout.offsets.items r.count r.tracer };
 }
 
 impl<L: Layer + Drop> Run<L> {
@@ -121,8 +121,8 @@ impl<L: Layer + Drop> Run<L> {
         let need = pages_needed(&boot);
         let have = disk.count();
         check_room(have, need)?;
-        let places = places_of(alloc, &boot, layer.memory_map())?;
-        let machine = loaded_machine(alloc, &places.map, &boot, schedule)?;
+        let layout = boot_layout(alloc, &boot, layer.memory_map())?;
+        let machine = loaded_machine(alloc, &layout.map, &boot, schedule)?;
         match write_pages(boot.users.as_slice(), boot.params.pages, &[], need, disk) {
             Ok(()) => Ok(Run {
                 layer,
@@ -134,7 +134,7 @@ impl<L: Layer + Drop> Run<L> {
                 current: 0,
                 ended: None,
                 fault: None,
-                places,
+                layout,
             }),
             Err(_) => Err(LoadFault::Disk),
         }
@@ -214,8 +214,8 @@ impl<L: Layer + Drop> Run<L> {
     {
         let boot = setup.boot;
         let count = disk.count();
-        let places = places_of(setup.alloc, &boot, setup.layer.memory_map())?;
-        let machine = rom_machine(setup.alloc, &places.map, rom, setup.schedule)?;
+        let layout = boot_layout(setup.alloc, &boot, setup.layer.memory_map())?;
+        let machine = rom_machine(setup.alloc, &layout.map, rom, setup.schedule)?;
         let users = boot.users.as_slice();
         let words = boot.words.as_slice();
         match write_pages(users, boot.params.pages, words, rom_needed(&boot), disk) {
@@ -229,7 +229,7 @@ impl<L: Layer + Drop> Run<L> {
                 current: 0,
                 ended: None,
                 fault: None,
-                places,
+                layout,
             }),
             Err(_) => Err(LoadFault::Disk),
         }
@@ -275,7 +275,7 @@ impl<L: Layer + Drop> Run<L> {
             budget,
             most,
             &mut self.tracer,
-            &self.places.map,
+            &self.layout.map,
             disk,
             out,
         )?;
@@ -303,7 +303,7 @@ impl<L: Layer + Drop> Run<L> {
     // Prints what stands behind a turn: of a boot the row of its dispatch, and of a trace the kernel's fault.
     fn put_after<O: Sink>(&self, answer: Turn, out: &mut O) -> Result<(), SinkFault>
         ensures put { Prints O.Sink out.old out.new (rows_after self.now.tracer self.now.ended answer) result }
-        ensures dispatch { self.now.tracer ≡ None → OnErr result ((row : OneRow) × (rows_of answer ≡ row ∷ [])) }
+        ensures dispatch { self.now.tracer ≡ None → OnErr result ((row : OneRow) × (rows_of_turn answer ≡ row ∷ [])) }
         ensures faulted { IsSome self.now.tracer → OnErr result (has_faulted self.now.ended ≡ true) }
     {
         match self.tracer {
@@ -324,8 +324,7 @@ impl<L: Layer + Drop> Run<L> {
         ensures makes { TurnsMake D.size most self.old disk.old budget.old self.new disk.new budget.new result }
         ensures ends { Proceeds D.size D.sectors most self.old disk.old budget.old self.new disk.new budget.new result }
         ensures any { ProceedsAnyhow D.size D.sectors most self.old disk.old budget.old self.new disk.new budget.new result }
-        ensures script { TurnsCall O.Sink D.Sectors self.old budget.old (out.old, disk.old) (out.new, disk.new) (budget.old - budget.new) result }
-        ensures untold { TurnsUntold O.Sink D.Sectors self.old (out.old, disk.old) (out.new, disk.new) (budget.old - budget.new) result }
+        ensures script { TurnsScript O.Sink D.Sectors self.old budget.old (out.old, disk.old) (out.new, disk.new) (budget.old - budget.new) result }
         ensures untraced { self.old.tracer ≡ None → self.new.tracer ≡ None }
         ensures less { budget.new ≤ budget.old }
     {
@@ -356,8 +355,7 @@ impl<L: Layer + Drop> Run<L> {
     ) -> Result<(u32, Turn), RunFault>
         requires can { CanMake most self.old (D.size disk.old) budget.old }
         ensures says { TurnsSay D.size D.sectors most self.old disk.old budget.old out.old self.new disk.new budget.new out.new result }
-        ensures script { TurnsCall O.Sink D.Sectors self.old budget.old (out.old, disk.old) (out.new, disk.new) (budget.old - budget.new) result }
-        ensures untold { TurnsUntold O.Sink D.Sectors self.old (out.old, disk.old) (out.new, disk.new) (budget.old - budget.new) result }
+        ensures script { TurnsScript O.Sink D.Sectors self.old budget.old (out.old, disk.old) (out.new, disk.new) (budget.old - budget.new) result }
         ensures untraced { self.old.tracer ≡ None → self.new.tracer ≡ None }
         ensures less { budget.new ≤ budget.old }
     {
@@ -419,7 +417,7 @@ impl<L: Layer + Drop> Run<L> {
         if let Some(tracer) = self.tracer {
             return as_run(put_trace_closing(
                 &self.machine,
-                &self.places.map,
+                &self.layout.map,
                 tracer,
                 standing,
                 disk,
@@ -427,7 +425,7 @@ impl<L: Layer + Drop> Run<L> {
             ));
         }
         let decls = self.boot.unit.unit().globals.as_slice();
-        as_run(put_closing(&self.machine, &self.places, decls, standing, disk, out))
+        as_run(put_closing(&self.machine, &self.layout, decls, standing, disk, out))
     }
 
     /// Prints the end and the report of a run that halted, or goes on: of a trace the row of the last steps, the end, and the rows of the
@@ -486,8 +484,8 @@ impl<L: Layer + Drop> Run<L> {
         ensures boots { AreBoots setup.boot setup.schedule count }
     {
         systems_can_boot(&setup.layer, &setup.boot, &setup.schedule);
-        let places = places_of(setup.alloc, &setup.boot, setup.layer.memory_map())?;
-        let machine = resumed_machine(setup.alloc, &places.map, setup.schedule, from)?;
+        let layout = boot_layout(setup.alloc, &setup.boot, setup.layer.memory_map())?;
+        let machine = resumed_machine(setup.alloc, &layout.map, setup.schedule, from)?;
         Ok(Run {
             layer: setup.layer,
             boot: setup.boot,
@@ -498,7 +496,7 @@ impl<L: Layer + Drop> Run<L> {
             current: from[6],
             ended: None,
             fault: None,
-            places,
+            layout,
         })
     }
 }

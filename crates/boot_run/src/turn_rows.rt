@@ -5,7 +5,7 @@ ghost use Rattle.cvm_model.specs.Primitives.{pages_of};
 ghost use Rattle.cvm_model.specs.Text.{rows_text, start_row as start_text, steps_row as steps_text};
 ghost use Rattle.cvm_model.specs.declared.row.Row.{Row as OneRow};
 ghost use Rattle.boot_run.specs.Shown.{has_faulted};
-ghost use Rattle.boot_run.specs.TurnCalls.{rows_of};
+ghost use Rattle.boot_run.specs.TurnCalls.{rows_of_turn};
 ghost use Rattle.boot_run.specs.TurnParts.{first_machine, fault_rows, HasUser};
 ghost use Rattle.boot_report.specs.Texts.{fault_row};
 
@@ -45,8 +45,8 @@ pub(crate) fn put_start<O: Sink>(boot: &Boot, user: u32, out: &mut O) -> Result<
 //
 // A fault of the sink.
 pub(crate) fn put_row<O: Sink>(answer: Turn, out: &mut O) -> Result<(), SinkFault>
-    ensures put { Prints O.Sink out.old out.new (rows_text (rows_of answer)) result }
-    ensures dispatch { OnErr result ((row : OneRow) × (rows_of answer ≡ row ∷ [])) }
+    ensures put { Prints O.Sink out.old out.new (rows_text (rows_of_turn answer)) result }
+    ensures dispatch { OnErr result ((row : OneRow) × (rows_of_turn answer ≡ row ∷ [])) }
 {
     match answer {
         Turn::Dispatch(row) => put(row_text(&row).as_str().as_bytes(), out),

@@ -12,14 +12,14 @@ use Rattle.cvm_model.specs.Kernel.{Core, power_of}
 use Rattle.cvm_model.specs.Cvm.{System, Status, Running, Halted, Faulted, Cvm, Begin, Steps, Traps, Interrupts, begin}
 use Rattle.layer_contract.specs.Layer.{Rests}
 use Rattle.boot_turns.specs.TurnEnds.{Stood}
-use Rattle.boot_turns.specs.Ahead.{Ahead}
-use Rattle.boot_turns.specs.Completes.{note, Progress, Completed, WentOff, ShownAs, Skips, CompleteOk, CompleteErr, CompleteEnds}
+use Rattle.boot_turns.specs.Ahead.{TurnAhead}
+use Rattle.boot_turns.specs.Completes.{note, Progress, Completed, WentOff, ShownAs, SkipsTurns, CompleteOk, CompleteErr, CompleteEnds}
 use Rattle.boot_turns.specs.RunMachines.{RowsGrow, RunMachines, MachinesRun}
 use Rattle.boot_turns.specs.Advances.{Advanced, StillGoes, Stops, Skipped, AdvanceEnds, AdvancesTyped}
 use Rattle.boot_turns.specs.declared.completion.Begun.{Begun}
 use Rattle.boot_turns.specs.declared.answers.RunFault.{RunFault}
 use Rattle.boot_turns.specs.declared.answers.RunFault.TheVariants.{StepLimit, Disk, Sink}
-use Rattle.boot_turns.proofs.Stepping.{user_rests}
+use Rattle.boot_turns.proofs.MasksAndTimes.{user_rests}
 
 went : (x : Environment) (y : System) (s : State) (late held : ℕ) → RunMachines x y s late held → (k t : ℕ) (c : Cvm) → Stood x y s k t c → c.status ≡ Running → (now : Option State) (budget left : ℕ) (b : Begun) →
     CompleteOk x now budget left s t b → Advanced x y s k t c now budget left b
@@ -66,7 +66,7 @@ is_running Halted z r on = absurd (let e : None ≡ Some 0 = sym on ∙ r in cc)
 is_running (Faulted f) z r on = absurd (let e : None ≡ Some (power_of f) = sym on ∙ r in cc)
 
 -- one more is passed
-module _ (x : Environment) (y : System) (s : State) (late held : ℕ) (m : RunMachines x y s late held) (k t : ℕ) (c : Cvm) (n : ℕ) (w : Skipped x y s k t c n) (skips : Skips x s t (suc n)) where
+module _ (x : Environment) (y : System) (s : State) (late held : ℕ) (m : RunMachines x y s late held) (k t : ℕ) (c : Cvm) (n : ℕ) (w : Skipped x y s k t c n) (skips : SkipsTurns x s t (suc n)) where
   next_at : t + suc n ≡ suc (t + n)
   next_at = omega arith
 
@@ -90,7 +90,7 @@ module _ (x : Environment) (y : System) (s : State) (late held : ℕ) (m : RunMa
     rest = user_rests (run x s (suc (t + n))) (eq-eqb (slice_index (run x s (suc (t + n))).special MODE) 1 mode_then);
   }
 
-  found : (a : Ahead x y s (k + n) (t + n) w.after) × (a.start ≡ t + n) × (a.end ≡ suc (t + n))
+  found : (a : TurnAhead x y s (k + n) (t + n) w.after) × (a.start ≡ t + n) × (a.end ≡ suc (t + n))
   unfolding passed
   found = m.found (k + n) (t + n) (suc (t + n)) w.after (note (run x s (suc (t + n)))) w.stood w.running passed
 
@@ -126,7 +126,7 @@ module _ (x : Environment) (y : System) (s : State) (late held : ℕ) (m : RunMa
     steps = skips;
   }
 
-pub skipped : (x : Environment) (y : System) (s : State) (late held : ℕ) → RunMachines x y s late held → (k t : ℕ) (c : Cvm) → Stood x y s k t c → c.status ≡ Running → (n : ℕ) → Skips x s t n → Skipped x y s k t c n
+pub skipped : (x : Environment) (y : System) (s : State) (late held : ℕ) → RunMachines x y s late held → (k t : ℕ) (c : Cvm) → Stood x y s k t c → c.status ≡ Running → (n : ℕ) → SkipsTurns x s t n → Skipped x y s k t c n
 skipped x y s late held m k t c st r zero skips =
     let ks : k ≡ k + 0 = omega arith in
     let ts : t ≡ t + 0 = omega arith in

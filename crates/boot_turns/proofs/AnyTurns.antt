@@ -13,12 +13,12 @@ use Rattle.mips_table.specs.Turns.{is_on, in_user, handled, begins_turn, rests, 
 use Rattle.mips_machine.specs.Steps.{outside_of}
 use Rattle.boot_turns.specs.AnyTurns.{Came, BrokeOff, LoopsMakeTurns}
 use Rattle.boot_turns.specs.Sooner.{NoSooner, ComesTo}
-use Rattle.boot_turns.specs.Completes.{state_seen, Open, Progress, Completed, WentOff, Skips, CompleteOk, CompleteErr, CompleteEnds}
+use Rattle.boot_turns.specs.Completes.{state_seen, Open, Progress, Completed, WentOff, SkipsTurns, CompleteOk, CompleteErr, CompleteEnds}
 use Rattle.boot_turns.specs.declared.completion.Begun.{Begun}
 use Rattle.boot_turns.specs.declared.answers.RunFault.{RunFault}
 use Rattle.boot_turns.specs.declared.answers.RunFault.TheVariants.{StepLimit, Disk, Sink}
-use Rattle.boot_turns.proofs.Stepping.{Held, coming_held, on_is, on_of, user_rests, was_on, both_left}
-use Rattle.boot_turns.proofs.Counting.{turn_same, turn_more, still, completes_at}
+use Rattle.boot_turns.proofs.MasksAndTimes.{Held, coming_held, on_is, on_of, user_rests, was_on, both_left}
+use Rattle.boot_turns.proofs.LinesOfTurns.{turn_same, turn_more, still, completes_at}
 
 -- AFTER A STEP no reset is latched
 interrupted_reset : (s : State) (cause : Cause) (edata epc : ℕ) → s.reset ≡ false → (interrupted s cause edata epc).reset ≡ false
@@ -195,14 +195,14 @@ module _ (x : Environment) (s : State) (k t : ℕ) (c : ComesTo x s k t) (on : (
   not_yet u (Some b) p here = open_more u b p.0 p.1
 
 -- turns of one step each
-skips_on : (x : Environment) (s : State) (t n : ℕ) → (run x s t).off ≡ None → Skips x s t n → (run x s (t + n)).off ≡ None
+skips_on : (x : Environment) (s : State) (t n : ℕ) → (run x s t).off ≡ None → SkipsTurns x s t n → (run x s (t + n)).off ≡ None
 skips_on x s t zero on skips = let e : t ≡ t + 0 = omega arith in subst (λ i. (run x s i).off ≡ None) e on
 skips_on x s t (suc n) on skips = (skips n (omega arith)).2
 
-after_skips : (x : Environment) (s : State) (k t n : ℕ) → ComesTo x s k t → (run x s t).off ≡ None → Skips x s t n → ComesTo x s (k + n) (t + n)
+after_skips : (x : Environment) (s : State) (k t n : ℕ) → ComesTo x s k t → (run x s t).off ≡ None → SkipsTurns x s t n → ComesTo x s (k + n) (t + n)
 after_skips x s k t zero c on skips = let a : k ≡ k + 0 = omega arith in let e : t ≡ t + 0 = omega arith in subst₂ (λ i j. ComesTo x s i j) a e c
 after_skips x s k t (suc n) c on skips =
-    let few : Skips x s t n = λ j l. skips j (omega (arith, l)) in
+    let few : SkipsTurns x s t n = λ j l. skips j (omega (arith, l)) in
     let so_far = after_skips x s k t n c on few in
     let here = skips n (omega arith) in
     let next : t + suc n ≡ suc (t + n) = omega arith in

@@ -8,7 +8,7 @@ use Rattle.mips_table.specs.Arith.{signed}
 use Rattle.cvm_model.specs.Kernel.{Core, Changes, JournalEntry, Trapped, MeaningLaws, KernelMeaning, DispatchOutcome, DispatchEnd, Answers, Faults, NotYet}
 use Rattle.cvm_model.specs.Cvm.{System, Status, Running, Halted, Faulted, Cvm, Begin, Steps, Traps, Interrupts, begin, dispatch_of, after_dispatch, dispatches, begun, turn_by, turn, cvm}
 use Rattle.cvm_model.specs.Journal.{changes_of, begin_calls, turn_calls, begin_entries, running_entries, turn_entries, journal}
-use Rattle.boot_turns.proofs.Units.{cvm_more}
+use Rattle.boot_turns.proofs.MoreUnits.{cvm_more}
 
 none_some : {A : Type 0} (p : A) → None ≡ Some p → ⊥
 none_some p e = cc

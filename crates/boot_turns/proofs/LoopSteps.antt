@@ -9,11 +9,11 @@ use Rattle.mips_table.specs.Machine.{State, run, step}
 use Rattle.mips_table.specs.Turns.{begins_turn, rests, in_user}
 use Rattle.mips_machine.specs.Machine.{Held, state_of}
 use Rattle.mips_machine.specs.Steps.{outside_of}
-use Rattle.boot_turns.specs.Completes.{state_seen, note, shown, noted, is_at_rest, Open, Progress, Skips, LeftBy, StepLeft, CompleteErr, PassesQuietly}
+use Rattle.boot_turns.specs.Completes.{state_seen, note, noted_of, noted, is_at_rest, Open, Progress, SkipsTurns, LeftBy, StepLeft, CompleteErr, PassesQuietly}
 use Rattle.boot_turns.specs.declared.completion.Begun.{Begun}
 use Rattle.boot_turns.specs.declared.answers.RunFault.{RunFault}
 use Rattle.boot_turns.specs.declared.answers.RunFault.TheVariants.{StepLimit, Disk, Sink}
-use Rattle.boot_turns.proofs.Events.{told_as_some}
+use Rattle.boot_turns.proofs.StepEvents.{told_as_some}
 use Rattle.boot_turns.proofs.Stretches.{later}
 use Rattle.boot_turns.proofs.QuietStretches.{skips_stretch}
 use Rattle.mips_machine.specs.Quiet.{Stretch}
@@ -21,7 +21,7 @@ use Rattle.mips_machine.specs.Quiet.{Stretch}
 same_state : (a b : State) → Some a ≡ Some b → a ≡ b
 same_state a b h = cc
 
-pub seen_note : (told : Option (List (List ℕ))) (held : Held) (v : State) → state_seen told held ≡ Some v → shown held ≡ note v
+pub seen_note : (told : Option (List (List ℕ))) (held : Held) (v : State) → state_seen told held ≡ Some v → noted_of held ≡ note v
 seen_note None held v h = absurd (let f : ◌≡◌ {A = Option State} None (Some v) = h in cc)
 seen_note (Some ss) held v h = ap note (same_state (state_of held ss) v h)
 
@@ -76,12 +76,12 @@ seen_more x a b v h e = h ∙ ap (option_map (step x)) e
 
 pub one_step : (x y : Environment) (s : State) (t u : ℕ) (told retold : Option (List (List ℕ))) (old new : Held) (b out : Option Begun) (began : Bool) → y ≡ x → t ≤ u →
     state_seen told old ≡ Some (run x s u) → Progress x s t u b → state_seen retold new ≡ option_map (step y) (state_seen told old) → IfSome (state_seen told old) (λ s. began ≡ begins_turn y s) →
-    out ≡ noted b began (shown new) → (state_seen retold new ≡ Some (run x s (suc u))) × Opened x s t (suc u) out
+    out ≡ noted b began (noted_of new) → (state_seen retold new ≡ Some (run x s (suc u))) × Opened x s t (suc u) out
 one_step x y s t u told retold old new b out began same le is p ran bg note_is =
     let ran2 : state_seen retold new ≡ option_map (step x) (state_seen told old) = subst (λ y. state_seen retold new ≡ option_map (step y) (state_seen told old)) same ran in
     let bg2 : IfSome (Some (run x s u)) (λ s. began ≡ begins_turn x s) = subst₂ (λ y o. IfSome o (λ s. began ≡ begins_turn y s)) same is bg in
     let there : state_seen retold new ≡ Some (run x s (suc u)) = seen_more x _ _ _ ran2 is in
-    (there, subst (Opened x s t (suc u)) (sym note_is) (opened_more x s t u b began (shown new) le p bg2 (seen_note retold new _ there)))
+    (there, subst (Opened x s t (suc u)) (sym note_is) (opened_more x s t u b began (noted_of new) le p bg2 (seen_note retold new _ there)))
 
 -- what a fault left of the step of a run
 pub left_at : (count : ℕ) (x : Environment) (v : State) (told retold : Option (List (List ℕ))) (old new : Held) (f : RunFault) → outside_of old.rows count ≡ x → state_seen told old ≡ Some v → StepLeft count old new told retold f →
@@ -97,9 +97,9 @@ step_stops x s t u before after new b Disk limit le spent p on left = (u, le, sp
 step_stops x s t u before after new b Sink limit le spent p on left = (u, le, spent, (b, p), on, left)
 
 -- a turn that is passed: the step at u, after n of them, began it and kept user mode
-pub skips_more : (x y : Environment) (s : State) (t n m u : ℕ) (told retold : Option (List (List ℕ))) (old new : Held) → y ≡ x → u ≡ t + n → m ≡ n + 1 → Skips x s t n →
+pub skips_more : (x y : Environment) (s : State) (t n m u : ℕ) (told retold : Option (List (List ℕ))) (old new : Held) → y ≡ x → u ≡ t + n → m ≡ n + 1 → SkipsTurns x s t n →
     state_seen told old ≡ Some (run x s u) → state_seen retold new ≡ option_map (step y) (state_seen told old) → IfSome (state_seen told old) (λ s. true ≡ begins_turn y s) → slice_index new.hardware.special MODE ≡ 1 → new.hardware.off ≡ None →
-    (state_seen retold new ≡ Some (run x s (suc u))) × Skips x s t m
+    (state_seen retold new ≡ Some (run x s (suc u))) × SkipsTurns x s t m
 skips_more x y s t n m u told retold old new same at more skips is ran bg mode on =
     let ran2 : state_seen retold new ≡ option_map (step x) (state_seen told old) = subst (λ y. state_seen retold new ≡ option_map (step y) (state_seen told old)) same ran in
     let bg2 : IfSome (Some (run x s u)) (λ s. true ≡ begins_turn x s) = subst₂ (λ y o. IfSome o (λ s. true ≡ begins_turn y s)) same is bg in
@@ -121,8 +121,8 @@ skips_more x y s t n m u told retold old new same at more skips is ran bg mode o
     )
 
 -- and so many more are passed by a stretch behind them
-pub skips_passed : (x : Environment) (s : State) (t n m u : ℕ) (told : Option (List (List ℕ))) (mid new : Held) (count : ℕ) → outside_of mid.rows count ≡ x → u ≡ t + n → Skips x s t n → state_seen told mid ≡ Some (run x s u) →
-    slice_index mid.hardware.special MODE ≡ 1 → PassesQuietly mid new m → (state_seen told new ≡ Some (run x s (u + m))) × Skips x s t (n + m)
+pub skips_passed : (x : Environment) (s : State) (t n m u : ℕ) (told : Option (List (List ℕ))) (mid new : Held) (count : ℕ) → outside_of mid.rows count ≡ x → u ≡ t + n → SkipsTurns x s t n → state_seen told mid ≡ Some (run x s u) →
+    slice_index mid.hardware.special MODE ≡ 1 → PassesQuietly mid new m → (state_seen told new ≡ Some (run x s (u + m))) × SkipsTurns x s t (n + m)
 skips_passed x s t n m u told mid new count same at skips is mode passes =
     let w = told_as_some told mid (run x s u) is in
     let here : Stretch x (state_of mid w.0) m (state_of new w.0) = subst (λ (z : Environment). Stretch z (state_of mid w.0) m (state_of new w.0)) same (passes.stretch count w.0) in

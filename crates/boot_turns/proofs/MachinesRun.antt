@@ -4,12 +4,12 @@ use Rattle.c0_meaning.specs.State.{C0State}
 use Rattle.layer_contract.specs.Starts.{StartsGoOn}
 use Rattle.layer_contract.specs.Users.{UserStepsLinked}
 use Rattle.boot_turns.specs.RunMachines.{MachinesRun, RunsStayTyped}
-use Rattle.boot_turns.proofs.Counting.{complete_small}
-use Rattle.boot_turns.proofs.Units.{one_cvm}
+use Rattle.boot_turns.proofs.LinesOfTurns.{complete_small}
+use Rattle.boot_turns.proofs.MoreUnits.{one_cvm}
 use Rattle.boot_turns.proofs.OneTurn.{given}
-use Rattle.boot_turns.proofs.Growing.{rows_grow, user_stays}
+use Rattle.boot_turns.proofs.TurnRows.{rows_grow, user_stays}
 use Rattle.boot_turns.proofs.NextTurn.{finished, unfinished, shown}
-use Rattle.boot_turns.proofs.BothWays.{forward, goes_on, two_faults, ahead, defined, is_over, beyond, torn}
+use Rattle.boot_turns.proofs.WholeRuns.{forward, goes_on, two_faults, ahead, defined, is_over, beyond, torn}
 
 pub machines_run : TurnLaws → StartsGoOn → UserStepsLinked → (Typed : C0State → Type 0) → MachinesRun Typed
 machines_run counts goes users Typed x y s late held f =

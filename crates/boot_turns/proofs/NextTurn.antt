@@ -11,12 +11,12 @@ use Rattle.cvm_model.specs.Cvm.{System, Status, Running, Halted, Faulted, Cvm, b
 use Rattle.layer_contract.specs.Layer.{Rests}
 use Rattle.boot_turns.specs.declared.completion.Begun.{Begun}
 use Rattle.boot_turns.specs.TurnEnds.{Stood}
-use Rattle.boot_turns.specs.Ahead.{Ahead}
+use Rattle.boot_turns.specs.Ahead.{TurnAhead}
 use Rattle.boot_turns.specs.Completes.{note, ShownAs, Progress, Completed}
-use Rattle.boot_turns.proofs.Stepping.{both_right, user_rests, off_rests}
-use Rattle.boot_turns.proofs.Counting.{turn_more, turn_grows, completes_at}
+use Rattle.boot_turns.proofs.MasksAndTimes.{both_right, user_rests, off_rests}
+use Rattle.boot_turns.proofs.LinesOfTurns.{turn_more, turn_grows, completes_at}
 use Rattle.boot_turns.proofs.OneTurn.{on_back, Given, Turns, Waits, begin_turn, turn_ahead}
-use Rattle.boot_turns.proofs.BothWays.{forward}
+use Rattle.boot_turns.proofs.WholeRuns.{forward}
 use Rattle.boot_turns.specs.RunMachines.{TurnFound, TurnGoesOn, TurnShows}
 
 true_false : (b : Bool) → b ≡ true → b ≡ false → ⊥
@@ -51,7 +51,7 @@ more_turns x s k t u b e c =
 pub finished : (x : Environment) (y : System) (s : State) (late held : ℕ) (Typed : C0State → Type 0) → Given x y s late held Typed → TurnFound x y s
 finished x y s late held Typed g k t u c b st r d = ⊎_elim
     (λ (w : Turns x y s Typed late held k t c).
-    let a : Ahead x y s k t c = w.ahead in
+    let a : TurnAhead x y s k t c = w.ahead in
     let o = d.opened in
     let e : a.start ≡ o.start = same_start x s t a.start o.start a.from o.from a.none o.none a.begin o.begin in
     let to = a.to in
@@ -76,7 +76,7 @@ finished x y s late held Typed g k t u c b st r d = ⊎_elim
 pub unfinished : (x : Environment) (y : System) (s : State) (late held : ℕ) (Typed : C0State → Type 0) → Given x y s late held Typed → TurnGoesOn x y s
 unfinished x y s late held Typed g k t n c b le st r pr = ⊎_elim
     (λ (w : Turns x y s Typed late held k t c).
-    let a : Ahead x y s k t c = w.ahead in
+    let a : TurnAhead x y s k t c = w.ahead in
     let far : n < a.end = ⊎_elim (λ (lt : n < a.end). lt) (λ (ge : a.end ≤ n). absurd (by a ge b pr)) (cases_lt n a.end) in
     (λ j l h. a.between j l (omega (arith, far)), λ j h. a.on j (omega (arith, far))))
     (λ (w : Waits x y s late held k t n c).
@@ -87,7 +87,7 @@ unfinished x y s late held Typed g k t n c b le st r pr = ⊎_elim
     (w.between, λ j h. on_back x s j n h on))
     (turn_ahead x y s late held Typed g k t n c st r (forward x y s late held Typed g st.cvm.units k c st.cvm.is).1.typed)
   where
-    by : (a : Ahead x y s k t c) → a.end ≤ n → (b : Option Begun) → Progress x s t n b → ⊥
+    by : (a : TurnAhead x y s k t c) → a.end ≤ n → (b : Option Begun) → Progress x s t n b → ⊥
     by a ge None pr = let to = a.to in true_false _ a.begin (pr a.start a.from (omega (arith, to)))
     by a ge (Some b) pr =
         let o = pr.0 in

@@ -33,12 +33,12 @@ use Rattle.boot_turns.specs.Premises.{StartsFrom}
 use Rattle.boot_turns.specs.Completes.{note, ShownAs}
 use Rattle.layer_contract.specs.Users.{UserStepsLinked}
 use Rattle.boot_turns.specs.TurnEnds.{Stood}
-use Rattle.boot_turns.specs.Ahead.{Ahead}
-use Rattle.boot_turns.proofs.Entering.{entered_none, begins_enters}
-use Rattle.boot_turns.proofs.Stepping.{Plain, instruction_plain, comes_plainly, was_on, both_left, both_right, on_of, inside_rests, user_rests, user_begins, reset_begins, reset_mask, none_pending, external_mask, taken_special}
-use Rattle.boot_turns.proofs.Counting.{turn_more, still, completes_at}
+use Rattle.boot_turns.specs.Ahead.{TurnAhead}
+use Rattle.boot_turns.proofs.EntryReached.{entered_none, begins_enters}
+use Rattle.boot_turns.proofs.MasksAndTimes.{Plain, instruction_plain, comes_plainly, was_on, both_left, both_right, on_of, inside_rests, user_rests, user_begins, reset_begins, reset_mask, none_pending, external_mask, taken_special}
+use Rattle.boot_turns.proofs.LinesOfTurns.{turn_more, still, completes_at}
 use Rattle.boot_turns.proofs.Stretches.{Stays, user_sectors, Passed, times, Settled, settled, through}
-use Rattle.boot_turns.proofs.Units.{one_cvm, cvm_more, cvm_next}
+use Rattle.boot_turns.proofs.MoreUnits.{one_cvm, cvm_more, cvm_next}
 use Rattle.boot_turns.proofs.Dispatching.{mask_begins, none_yet, Closed, Known, Came, dispatches}
 
 -- a machine that is on was on
@@ -111,7 +111,7 @@ pub record Beginning (x : Environment) (y : System) (s : State) (more held k t :
 -- turn k is complete, with typed data, and each step on the way keeps the sectors
 pub record Turns (x : Environment) (y : System) (s : State) (Typed : C0State → Type 0) (late held k t : ℕ) (c : Cvm) : Type 0 where
   pub beginning : Beginning x y s (late - 1) held k t c
-  pub ahead : Ahead x y s k t c
+  pub ahead : TurnAhead x y s k t c
   pub typed : Typed ahead.after.core.c0
   pub within : t ≤ c.bound + (late - 1) → ahead.end ≤ ahead.after.bound + (late - 1)
   pub inside : (j : ℕ) → beginning.start < j → j < ahead.end → Inside (run x s j)

@@ -11,8 +11,8 @@ use Rattle.mips_machine.specs.Machine.{Held, state_of}
 use Rattle.mips_machine.specs.Quiet.{Stretch, IsQuietlyLater}
 use Rattle.mips_machine.specs.Steps.{outside_of}
 use Rattle.boot_turns.specs.declared.completion.Begun.{Begun}
-use Rattle.boot_turns.specs.Completes.{state_seen, is_at_rest, Progress, Skips, PassesQuietly}
-use Rattle.boot_turns.proofs.Events.{begun_by, event_begins, told_as_some}
+use Rattle.boot_turns.specs.Completes.{state_seen, is_at_rest, Progress, SkipsTurns, PassesQuietly}
+use Rattle.boot_turns.proofs.StepEvents.{begun_by, event_begins, told_as_some}
 use Rattle.boot_turns.proofs.Stretches.{later}
 
 rests_by : (s : State) → s.off ≡ None → in_user s ≡ false → rests s ≡ false
@@ -40,7 +40,7 @@ module _ (x : Environment) (u : State) (m : ℕ) (new : State) (stretch : Stretc
 
 module _ (x : Environment) (s : State) (t : ℕ) where
   -- more turns of one step each
-  pub skips_stretch : (n m : ℕ) (new : State) → Skips x s t n → Stretch x (run x s (t + n)) m new → slice_index (run x s (t + n)).special MODE ≡ 1 → Skips x s t (n + m)
+  pub skips_stretch : (n m : ℕ) (new : State) → SkipsTurns x s t n → Stretch x (run x s (t + n)) m new → slice_index (run x s (t + n)).special MODE ≡ 1 → SkipsTurns x s t (n + m)
   skips_stretch n m new skips stretch mode = λ j low. ⊎_elim
       (λ (early : j < n). skips j early)
       (λ (late : n ≤ j).

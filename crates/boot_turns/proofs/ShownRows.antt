@@ -5,7 +5,7 @@ use Rattle.std.proofs.Math.Nat.{suc-mul, mul-le-mul_right}
 use Rattle.std.proofs.Math.Seq.{drop-append-add, drop-append_seam, take-append-add}
 use Rattle.std.proofs.lemmas.Bool.{cond-false}
 use Rattle.cvm_outside.specs.Script.{Call, Printed, Read, scripts}
-use Rattle.cvm_outside.proofs.Putting.{scripts-none, scripts-suc}
+use Rattle.cvm_outside.proofs.RowsPut.{scripts-none, scripts-suc}
 use Rattle.mips_table.specs.Device.{Environment}
 use Rattle.mips_table.specs.Machine.{State, run}
 use Rattle.mips_table.specs.Turns.{begins_turn}
@@ -16,7 +16,7 @@ use Rattle.page_model.specs.Paging.{Paged}
 use Rattle.cvm_model.specs.Cvm.{System, map_of}
 use Rattle.cvm_model.specs.Kernel.{JournalEntry, Trapped, Stepped, Put}
 use Rattle.cvm_model.specs.Paged.{paged_of}
-use Rattle.cvm_model.specs.Primitives.{puts}
+use Rattle.cvm_model.specs.Primitives.{put_entries}
 use Rattle.cvm_model.specs.Text.{steps_row, entry_row, journal_rows_after, open_journal_rows}
 use Rattle.boot_report.specs.Resident.{is_resident, word_reads}
 use Rattle.boot_report.specs.Texts.{EntriesFit}
@@ -32,11 +32,11 @@ use Rattle.boot_turns.specs.JournalText.{pending_steps, RowsFollow}
 use Rattle.boot_turns.specs.Returns.{noted_call, returned}
 use Rattle.boot_turns.specs.Tracing.{ReturnTold, tracer_at}
 use Rattle.boot_turns.specs.Runs.{Past}
-use Rattle.boot_turns.specs.StepScript.{prints, page_of, page_reads, is_copy_to, entry_reads, row_behind, rows_script}
+use Rattle.boot_turns.specs.StepScript.{prints, page_of, reads_of_page, is_copy_to, entry_reads, row_behind, rows_script}
 use Rattle.boot_turns.specs.RowScripts.{ArePages, copied_script, copy_script, words_copied, ended_script, returned_script, followed_script}
 use Rattle.boot_turns.specs.LoopScripts.{traced_run}
-use Rattle.boot_turns.proofs.Copying.{copy_rows, rows_next, puts_length}
-use Rattle.boot_turns.proofs.Followed.{copy_is, first_rows, copied_length}
+use Rattle.boot_turns.proofs.CopiedRows.{copy_rows, rows_next, puts_length}
+use Rattle.boot_turns.proofs.StepRows.{copy_is, first_rows, copied_length}
 use Rattle.boot_turns.proofs.JournalRows.{nil_back, put_some}
 
 -- scripts of numbers that agree
@@ -82,9 +82,9 @@ module _ (f : RowsFollow) (reads : List JournalEntry → List Call) (j : List Jo
   one_added (e ∷ g ∷ d) few none = absurd (omega (arith, few))
 
 -- A WORD that a primitive copied
-puts_drop : (i address : ℕ) (ws : List ℕ) → i < length ws → (w : ℕ) × (rest : List JournalEntry) × (drop i (puts address ws) ≡ Put (address + 4 * i) w ∷ rest)
+puts_drop : (i address : ℕ) (ws : List ℕ) → i < length ws → (w : ℕ) × (rest : List JournalEntry) × (drop i (put_entries address ws) ≡ Put (address + 4 * i) w ∷ rest)
 puts_drop i address [] lt = absurd (omega (arith, lt))
-puts_drop zero address (w ∷ ws) lt = let e : address ≡ address + 4 * 0 = omega arith in (w, puts (address + 4) ws, ap (λ a. Put a w ∷ puts (address + 4) ws) e)
+puts_drop zero address (w ∷ ws) lt = let e : address ≡ address + 4 * 0 = omega arith in (w, put_entries (address + 4) ws, ap (λ a. Put a w ∷ put_entries (address + 4) ws) e)
 puts_drop (suc i) address (w ∷ ws) lt =
     let r = puts_drop i (address + 4) ws (omega (arith, lt)) in
     let e : address + 4 + 4 * i ≡ address + 4 * suc i = omega arith in (r.0, r.1, r.2 ∙ ap (λ a. Put a r.0 ∷ r.1) e)
@@ -148,7 +148,7 @@ module _ (m : Map) (s : State) (u n answer : ℕ) (e : Entered) (words : List �
       let page : (address + 4 * i) / 4096 ≡ (address / 4 + i) / 1024 = omega arith in
       ap (λ (d : List JournalEntry). entry_reads m s u (drop i d)) is
       ∙ ap (entry_reads m s u) p.2
-      ∙ ap (λ k. page_reads m s (page_of m u k)) page
+      ∙ ap (λ k. reads_of_page m s (page_of m u k)) page
       ∙ ap (λ b. if b then [] else Read (page_of m u ((address / 4 + i) / 1024)) ∷ [])
       (sym (resident_as m s (page_of m u ((address / 4 + i) / 1024)) told.entries (in_pages m u (address / 4 + i) some most (omega (arith, there, room, lt)))))
 

@@ -4,7 +4,7 @@ use Rattle.std.specs.Prelude.{◌==◌, if◌then◌else◌}
 use Rattle.std.specs.Option.{option_map}
 use Rattle.cvm_outside.specs.Outside.{Outside}
 use Rattle.cvm_outside.specs.Script.{Call, Printed, Read, Wrote, Got, Stored, Who, Performs, done, breaks, goes_on, scripts}
-use Rattle.cvm_outside.proofs.Putting.{scripts-none, scripts-suc}
+use Rattle.cvm_outside.proofs.RowsPut.{scripts-none, scripts-suc}
 use Rattle.sector_disk.specs.Ports.{transfer_script}
 use Rattle.mips_table.specs.Device as device
 use Rattle.mips_table.specs.Device.{Pending, Idle, Reading, Writing}

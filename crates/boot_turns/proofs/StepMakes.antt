@@ -6,8 +6,8 @@ use Rattle.cvm_outside.specs.Outside.{Files, Outside, output, drive}
 use Rattle.cvm_outside.specs.declared.sink.Sink as sink_of
 use Rattle.cvm_outside.specs.declared.sectors.Sectors as sectors_of
 use Rattle.cvm_outside.specs.Script.{Call, Who, TheDisk, Performs, done, scripts, blame}
-use Rattle.cvm_outside.proofs.Follow.{both, first}
-use Rattle.cvm_outside.proofs.Putting.{same_script, scripts-none, scripts-suc}
+use Rattle.cvm_outside.proofs.ScriptsFollow.{both, first}
+use Rattle.cvm_outside.proofs.RowsPut.{same_script, scripts-none, scripts-suc}
 use Rattle.mips_table.specs.Device as device
 use Rattle.mips_table.specs.Machine.{State, step, run}
 use Rattle.mips_table.specs.Turns.{begins_turn}
@@ -31,11 +31,11 @@ use Rattle.boot_turns.specs.Tracing.{Traced, tracer_at, tracing}
 use Rattle.boot_turns.specs.StepScript.{step_script, rows_script, steps_script}
 use Rattle.boot_turns.specs.RowScripts.{of_run, ArePages, followed_script}
 use Rattle.boot_turns.specs.LoopScripts.{InSteps, traced_run, CallsOf, StepsCall}
-use Rattle.boot_turns.proofs.Events.{told_as_some}
+use Rattle.boot_turns.proofs.StepEvents.{told_as_some}
 use Rattle.boot_turns.proofs.ShownRows.{scripts-same, counted_none}
 use Rattle.boot_turns.proofs.SomeCalls.{untold, made_untold, of_both, untold_both, of_due, of_followed}
 use Rattle.boot_turns.proofs.Stretches.{later}
-use Rattle.boot_turns.proofs.Tracking.{Booted, Tracks, steps_one, step_made}
+use Rattle.boot_turns.proofs.TraceLoops.{Booted, Tracks, steps_one, step_made}
 
 -- scripts of some numbers, and those of more behind them
 more_scripts : (f : ℕ → List Call) (n k : ℕ) → scripts f (n + k) ≡ scripts f n ++ scripts (λ i. f (n + i)) k

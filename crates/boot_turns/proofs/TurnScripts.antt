@@ -2,7 +2,7 @@
 use Rattle.std.proofs.Common.{◌≡◌, ℕ, suc, ◌+◌, ◌<◌, List, [], ◌++◌, length, drop, sym, ap, ap₂, ◌∙◌, append-nil, append_assoc}
 use Rattle.std.proofs.Math.Seq.{drop-length}
 use Rattle.cvm_outside.specs.Script.{Call}
-use Rattle.cvm_outside.proofs.Putting.{scripts-suc}
+use Rattle.cvm_outside.proofs.RowsPut.{scripts-suc}
 use Rattle.cvm_model.specs.declared.row.Row.{Row}
 use Rattle.cvm_model.specs.Text.{rows_text}
 use Rattle.mips_table.specs.Machine.{run}

@@ -10,8 +10,8 @@ use Rattle.c0_meaning.specs.TypedState.{IsTypedState}
 use Rattle.c0_meaning.specs.State.{C0State}
 use Rattle.cvm_model.specs.Cvm.{System, Running, Cvm}
 use Rattle.boot_turns.specs.TurnEnds.{Stood}
-use Rattle.boot_turns.specs.Ahead.{Ahead}
-use Rattle.boot_turns.specs.Completes.{state_seen, note, LeftBy, Skips, Completes}
+use Rattle.boot_turns.specs.Ahead.{TurnAhead}
+use Rattle.boot_turns.specs.Completes.{state_seen, note, LeftBy, SkipsTurns, Completes}
 use Rattle.boot_turns.specs.Premises.{StartsFrom}
 use Rattle.boot_turns.specs.declared.completion.Begun.{Begun}
 use Rattle.boot_turns.specs.declared.answers.RunFault.{RunFault}
@@ -19,7 +19,7 @@ use Rattle.boot_turns.specs.declared.answers.RunFault.TheVariants.{StepLimit}
 
 -- turn k is complete: the machine stands at its end, its steps are taken from the budget, and what is noted is shown after its first step
 pub record Advanced (x : Environment) (y : System) (s : State) (k t : ℕ) (c : Cvm) (now : Option State) (budget left : ℕ) (b : Begun) : Type 0 where
-  pub ahead : Ahead x y s k t c
+  pub ahead : TurnAhead x y s k t c
   pub state : now ≡ Some (run x s ahead.end)
   pub spent : left + ahead.end ≡ budget + t
   pub shows : b ≡ note (run x s (suc ahead.start))
@@ -57,7 +57,7 @@ pub record Skipped (x : Environment) (y : System) (s : State) (k t : ℕ) (c : C
   pub current : after.core.current ≡ c.core.current
   pub done : (j : ℕ) → j ≤ n → complete x s (t + j) ≡ k + j
   pub on : (j : ℕ) → j ≤ t + n → (run x s j).off ≡ None
-  pub steps : Skips x s t n
+  pub steps : SkipsTurns x s t n
 
 -- how the run of turns ends, so many at most: after n of them, with a turn as `Advanced` says or before its end
 abbrev pub AdvanceEnds : Environment → System → State → (k t : ℕ) → Cvm → Option State → (budget left most : ℕ) → Result (ℕ × Begun) RunFault → Type 0

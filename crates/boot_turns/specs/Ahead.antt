@@ -7,7 +7,7 @@ use Rattle.cvm_model.specs.Cvm.{System, Cvm}
 use Rattle.boot_turns.specs.TurnEnds.{Stood}
 
 -- turn k, from step t on
-pub record Ahead (x : Environment) (y : System) (s : State) (k t : ℕ) (c : Cvm) : Type 0 where
+pub record TurnAhead (x : Environment) (y : System) (s : State) (k t : ℕ) (c : Cvm) : Type 0 where
   pub start : ℕ
   pub end : ℕ
   pub after : Cvm

@@ -78,7 +78,7 @@ KeptUser held Kept = (slice_index held.hardware.special MODE ≡ 1) × (held.har
 KeptUser held other = Unit {0}
 
 -- over a disk of so many sectors the machine made one step, which was this for the turns
-pub record StepDone (count : ℕ) (old new : Held) (told retold : Option (List (List ℕ))) (stepped : Stepped) : Type 0 where
+pub record TurnStepDone (count : ℕ) (old new : Held) (told retold : Option (List (List ℕ))) (stepped : Stepped) : Type 0 where
   pub ran : StepRan count old new told retold
   pub began : StepBegan count old told (turn_began stepped)
   pub kept : KeptUser new stepped
@@ -93,8 +93,8 @@ note s = record {
 }
 
 -- the same of a machine, whatever its disk's sectors are
-abbrev pub shown : Held → Begun
-shown held = note (state_of held [])
+abbrev pub noted_of : Held → Begun
+noted_of held = note (state_of held [])
 
 -- what is noted first stays
 abbrev pub noted : Option Begun → Bool → Begun → Option Begun
@@ -151,13 +151,13 @@ pub record PassesQuietly (old new : Held) (n : ℕ) : Type 0 where
   pub rest : new ≡ record old { hardware = record old.hardware { cpu = new.hardware.cpu; memory = new.hardware.memory }; time = old.time + n }
 
 -- n turns from step t on were one step each, after which the machine was on and in user mode
-abbrev pub Skips : Environment → State → (t n : ℕ) → Type 0
-Skips x s t n = (j : ℕ) → j < n → (begins_turn x (run x s (t + j)) ≡ true) × (slice_index (run x s (t + suc j)).special MODE ≡ 1)
+abbrev pub SkipsTurns : Environment → State → (t n : ℕ) → Type 0
+SkipsTurns x s t n = (j : ℕ) → j < n → (begins_turn x (run x s (t + j)) ≡ true) × (slice_index (run x s (t + suc j)).special MODE ≡ 1)
     × ((run x s (t + suc j)).off ≡ None)
 
 -- how the loop ends, after n such turns of so many at most
 abbrev pub CompleteEnds : Environment → Option State → ℕ → ℕ → State → ℕ → (most : ℕ) → Result (ℕ × Begun) RunFault → Type 0
-CompleteEnds x new before after s t most result = (n : ℕ) × (n < most) × (n ≤ before) × Skips x s t n ×
+CompleteEnds x new before after s t most result = (n : ℕ) × (n < most) × (n ≤ before) × SkipsTurns x s t n ×
     MatchResult result (λ r. (r.0 ≡ n) × CompleteOk x new (before - n) after s (t + n) r.1) (CompleteErr x new (before - n) after s (t + n))
 
 -- THE LOOP, over a disk of so many sectors: from any step of any run in which the machine stands

@@ -7,7 +7,7 @@ use Rattle.mips_table.specs.Turns.{begins_turn, rests}
 use Rattle.layer_map.specs.Map.{current_at}
 use Rattle.c0_meaning.specs.State.{C0State}
 use Rattle.cvm_model.specs.Kernel.{Core, JournalEntry, Stepped, Trapped, Set, Size, Put}
-use Rattle.cvm_model.specs.Primitives.{user_of, puts}
+use Rattle.cvm_model.specs.Primitives.{user_of, put_entries}
 use Rattle.cvm_model.specs.Cvm.{System, Running}
 use Rattle.cvm_model.specs.Stands.{RunningRelation}
 use Rattle.layer_contract.specs.declared.registers.TheConstants.{ANSWER}
@@ -32,7 +32,7 @@ call_ends u e answer words =
     if e.primitive == VM_SET && a 0 == u then Set (a 1) (a 2) ∷ [] else
     if e.primitive == VM_RESIZE && a 0 == u then Size (a 1) ∷ [] else
     if e.primitive == VM_PUT && a 0 == u then Put (a 1) (a 2) ∷ [] else
-    if e.primitive == VM_COPY && a 2 == u then puts (a 3) (take (a 4) (drop (a 3 / 4) words)) else []
+    if e.primitive == VM_COPY && a 2 == u then put_entries (a 3) (take (a 4) (drop (a 3 / 4) words)) else []
     ) else []
 
 -- it is not the primitive that copies words

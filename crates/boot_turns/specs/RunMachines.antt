@@ -14,7 +14,7 @@ use Rattle.boot_turns.specs.Completes.{note, ShownAs, Progress, Completed}
 use Rattle.boot_turns.specs.Torn.{Torn}
 use Rattle.boot_turns.specs.Premises.{StartsFrom}
 use Rattle.boot_turns.specs.TurnEnds.{Stood, TurnIsOver}
-use Rattle.boot_turns.specs.Ahead.{Ahead}
+use Rattle.boot_turns.specs.Ahead.{TurnAhead}
 use Rattle.boot_turns.specs.GoesOn.{GoesOnWithin}
 
 -- the CVM run is defined for as many turns as are complete at any step
@@ -29,7 +29,7 @@ TwoFaults x s = (k a b : ℕ) → complete x s a ≡ k → complete x s b ≡ k 
 -- where the machine came through a turn, that is turn k
 abbrev pub TurnFound : Environment → System → State → Type 0
 TurnFound x y s = (k t u : ℕ) (c : Cvm) (b : Begun) → Stood x y s k t c → c.status ≡ Running → (d : Completed x s t u b) →
-    (a : Ahead x y s k t c) × (a.start ≡ d.opened.start) × (a.end ≡ u)
+    (a : TurnAhead x y s k t c) × (a.start ≡ d.opened.start) × (a.end ≡ u)
 
 -- where it hasn't yet by step n, turn k isn't complete up to there, and the machine is on
 abbrev pub TurnGoesOn : Environment → System → State → Type 0
@@ -38,7 +38,7 @@ TurnGoesOn x y s = (k t n : ℕ) (c : Cvm) (b : Option Begun) → t ≤ n → St
 
 -- what the machine shows after the first step of turn k is what that turn begins with
 abbrev pub TurnShows : Environment → System → State → Type 0
-TurnShows x y s = (k t : ℕ) (c : Cvm) → Stood x y s k t c → c.status ≡ Running → (a : Ahead x y s k t c) →
+TurnShows x y s = (k t : ℕ) (c : Cvm) → Stood x y s k t c → c.status ≡ Running → (a : TurnAhead x y s k t c) →
     ShownAs (begin k c.core (bit_or c.pending (lines_of_turn x s k))) (note (run x s (suc a.start)))
 
 -- a dispatch adds its row, and the status and the current user are by who is next
@@ -65,8 +65,8 @@ UserStays x y s = (k : ℕ) (c after : Cvm) (at : Core) → IsCvm y (lines_of_tu
     begin k c.core (bit_or c.pending (lines_of_turn x s k)) ≡ Steps at → after.core.current ≡ c.core.current
 
 -- where so many turns are complete or the machine is off for the first time, the run is over, and it rests as the CVM run says
-abbrev pub RunsEnd : Environment → System → State → Type 0
-RunsEnd x y s = (turns steps : ℕ) (c : Cvm) → IsCvm y (lines_of_turn x s) (complete x s (end_within x s turns steps)) c →
+abbrev pub RunsComeToRest : Environment → System → State → Type 0
+RunsComeToRest x y s = (turns steps : ℕ) (c : Cvm) → IsCvm y (lines_of_turn x s) (complete x s (end_within x s turns steps)) c →
     is_end x s turns (end_within x s turns steps) ≡ true → TurnIsOver x y s turns (end_within x s turns steps) c
 
 -- a run from a start from which the layer takes over after `late` steps, with the sectors below `held`
@@ -74,7 +74,7 @@ pub record RunMachines (x : Environment) (y : System) (s : State) (late held : �
   pub goes_on : GoesOnWithin x y s (late - 1)
   pub defined : RunIsDefined x y s
   pub two_faults : TwoFaults x s
-  pub ahead : (k t : ℕ) (c d : Cvm) → Stood x y s k t c → c.status ≡ Running → IsCvm y (lines_of_turn x s) (suc k) d → Ahead x y s k t c
+  pub ahead : (k t : ℕ) (c d : Cvm) → Stood x y s k t c → c.status ≡ Running → IsCvm y (lines_of_turn x s) (suc k) d → TurnAhead x y s k t c
   pub found : TurnFound x y s
   pub unfound : TurnGoesOn x y s
   pub shows : TurnShows x y s
@@ -84,7 +84,7 @@ pub record RunMachines (x : Environment) (y : System) (s : State) (late held : �
   pub beyond : (t : ℕ) → Beyond held s.device.sectors (run x s t).device.sectors
   pub torn : (t : ℕ) (now : List (List ℕ)) → (run x s t).off ≡ None → Torn x (run x s t) now → Beyond held s.device.sectors now
   pub few : (t : ℕ) → complete x s t ≤ t
-  pub ends : RunsEnd x y s
+  pub ends : RunsComeToRest x y s
   pub same : (k : ℕ) (c d : Cvm) → IsCvm y (lines_of_turn x s) k c → IsCvm y (lines_of_turn x s) k d → c ≡ d
 
 -- THE RUN FROM A START

@@ -32,8 +32,8 @@ transfers x s t n = scripts (λ i. script_of_step x (run x s (t + i))) n
 abbrev pub page_of : Map → (u p : ℕ) → ℕ
 page_of m u p = (u - 1) * m.params.pages + p
 
-abbrev pub page_reads : Map → State → (q : ℕ) → List Call
-page_reads m s q = if (paged_of m s).entry q / IS_VALID % 2 == 1 then [] else Read q ∷ []
+abbrev pub reads_of_page : Map → State → (q : ℕ) → List Call
+reads_of_page m s q = if (paged_of m s).entry q / IS_VALID % 2 == 1 then [] else Read q ∷ []
 
 -- whether the primitive that returns here copied words to user u
 abbrev pub is_copy_to : ℕ → State → Option Entered → Bool
@@ -47,7 +47,7 @@ copies_at r u t =
 
 -- the read of the word that the first of these entries has, which was copied to user u
 abbrev pub entry_reads : Map → State → (u : ℕ) → List JournalEntry → List Call
-entry_reads m s u (Put address value ∷ rest) = page_reads m s (page_of m u (address / 4096))
+entry_reads m s u (Put address value ∷ rest) = reads_of_page m s (page_of m u (address / 4096))
 entry_reads m s u other = []
 
 -- the text that entry number k adds to the rows of a journal

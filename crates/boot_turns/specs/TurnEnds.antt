@@ -16,8 +16,8 @@ use Rattle.boot_turns.specs.declared.answers.View.{View}
 use Rattle.boot_turns.specs.declared.answers.View.TheVariants.{Boot, Trace}
 
 -- user u's machine at the start
-abbrev pub first_of : System → ℕ → Flat
-first_of y u = user_of (first_core y).users u
+abbrev pub first_user_machine : System → ℕ → Flat
+first_user_machine y u = user_of (first_core y).users u
 
 -- how the machine is after k turns: at its start, or at rest, standing for c with the lines of turn k so far
 abbrev pub RestsAfter : Environment → System → State → ℕ → ℕ → Cvm → Type 0
@@ -41,11 +41,11 @@ pub record TurnIsOver (x : Environment) (y : System) (s : State) (turns t : ℕ)
 -- THE TEXT at step t: the rows of the complete turns; or the start row and the rows of what is shown, but for a last row of steps
 abbrev pub Printed : Environment → System → State → View → ℕ → List ℕ → Type 0
 Printed x y s Boot t text = (c : Cvm) × IsCvm y (lines_of_turn x s) (complete x s t) c × (text ≡ rows_text c.rows)
-Printed x y s (Trace u) t text = (j : List JournalEntry) × Shown x s y u t j × (text ≡ start_row u (first_of y u) ++ open_journal_rows j)
+Printed x y s (Trace u) t text = (j : List JournalEntry) × Shown x s y u t j × (text ≡ start_row u (first_user_machine y u) ++ open_journal_rows j)
 
 -- THE WHOLE TEXT, with the end and the report
 abbrev pub Whole : Environment → System → State → View → ℕ → List ℕ → Type 0
 Whole x y s Boot t text = (c : Cvm) × IsCvm y (lines_of_turn x s) (complete x s t) c × (text ≡ boot_text y c)
 Whole x y s (Trace u) t text = (c : Cvm) × (j : List JournalEntry) × IsCvm y (lines_of_turn x s) (complete x s t) c
     × Shown x s y u t j
-    × (text ≡ trace_text u (first_of y u) j (user_of c.core.users u) c.status)
+    × (text ≡ trace_text u (first_user_machine y u) j (user_of c.core.users u) c.status)

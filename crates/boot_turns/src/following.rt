@@ -1,7 +1,7 @@
 // The rows of one step of a trace, and what is kept after it.
 ghost use Rattle.std.specs.Prelude.{◌≡◌, ◌<◌, ◌-◌, ◌^◌, [], length, Some, OnErr};
 ghost use Rattle.mips_machine.specs.Machine.{state_of};
-ghost use Rattle.boot_turns.specs.Completes.{shown};
+ghost use Rattle.boot_turns.specs.Completes.{noted_of};
 ghost use Rattle.boot_turns.specs.Entries.{HasRows};
 ghost use Rattle.boot_turns.specs.Returns.{notes_on, returned};
 ghost use Rattle.boot_turns.specs.RowScripts.{MakesRows, ended_script, followed_script};
@@ -21,7 +21,7 @@ use mips_machine::Machine;
 // What the machine shows now, as it is noted after the step that begins a turn.
 pub(crate) fn begun_now(machine: &Machine) -> Begun
     requires room { 1024 < length machine.now.hardware.memory }
-    ensures { result ≡ shown machine.now }
+    ensures { result ≡ noted_of machine.now }
 {
     Begun {
         dispatched: machine.special(MODE) != 1,

@@ -1,7 +1,7 @@
 -- A unit has one answer.
 use Rattle.std.proofs.Common.{◌≡◌, inl, inr, ℕ, ◌≤◌, List, [], ◌∷◌, refl, ap, ◌∙◌, arith}
 use Rattle.bound_check.specs.Graph.{IsAtMost}
-use Rattle.bound_check.specs.Chains.{chain_words, AnswersAreOne}
+use Rattle.bound_check.specs.Chains.{chain_weight, AnswersAreOne}
 
 -- lists neither of which comes before the other are the same
 same : (xs ys : List ℕ) → IsAtMost xs ys → IsAtMost ys xs → xs ≡ ys
@@ -22,8 +22,8 @@ same (x ∷ xs) (y ∷ ys) h g =
 pub answers_are_one : AnswersAreOne
 answers_are_one = record {
   chains = λ u m n xs ys a b.
-      let le : chain_words u ys ≤ m = a.most ys b.chain in
-      let ge : chain_words u xs ≤ n = b.most xs a.chain in
+      let le : chain_weight u ys ≤ m = a.most ys b.chain in
+      let ge : chain_weight u xs ≤ n = b.most xs a.chain in
       let e : m ≡ n = omega (arith, le, ge, a.words_are, b.words_are) in
       (e, same xs ys (a.least ys b.chain (omega (arith, e, b.words_are))) (b.least xs a.chain (omega (arith, e, a.words_are))));
   loops = λ u xs ys a b. same xs ys (a.least ys b.looping) (b.least xs a.looping);

@@ -16,26 +16,26 @@ abbrev pub mark_of : List Mark → ℕ → Mark
 mark_of marks v = get_or marks v Unseen
 
 -- the words that a mark tells
-abbrev pub told : Mark → ℕ
-told Unseen = 0
-told (Ends n) = n
-told Loops = 0
+abbrev pub told_words : Mark → ℕ
+told_words Unseen = 0
+told_words (Ends n) = n
+told_words Loops = 0
 
 -- the most words that are told of numbers
 abbrev pub most : List Mark → List ℕ → ℕ
 most marks [] = 0
-most marks (v ∷ rest) = max (told (mark_of marks v)) (most marks rest)
+most marks (v ∷ rest) = max (told_words (mark_of marks v)) (most marks rest)
 
 -- whether a mark tells that no loop is reached
-abbrev pub is_end : Mark → Bool
-is_end Unseen = false
-is_end (Ends n) = true
-is_end Loops = false
+abbrev pub tells_no_loop : Mark → Bool
+tells_no_loop Unseen = false
+tells_no_loop (Ends n) = true
+tells_no_loop Loops = false
 
 -- whether that is told of each of these numbers
 abbrev pub all_end : List Mark → List ℕ → Bool
 all_end marks [] = true
-all_end marks (v ∷ rest) = is_end (mark_of marks v) && all_end marks rest
+all_end marks (v ∷ rest) = tells_no_loop (mark_of marks v) && all_end marks rest
 
 -- the mark of a number by those of the numbers to which it has an edge: what leads to itself or has an edge to what reaches a loop reaches one
 abbrev pub mark_by : Bool → ℕ → List Mark → List ℕ → Mark

@@ -7,7 +7,7 @@ ghost use Rattle.c0_struct_sizes.specs.Graph.{IsOrder};
 ghost use Rattle.bound_check.specs.Calls as spec;
 ghost use Rattle.bound_check.specs.Marks as tells;
 ghost use Rattle.bound_check.specs.declared.marks.Mark.TheVariants.{Unseen};
-ghost use Rattle.bound_check.specs.Marks.{mark_by, mark_of, most, told, AreTold, IsGraph, IsToldOf, MAX_FRAME};
+ghost use Rattle.bound_check.specs.Marks.{mark_by, mark_of, most, told_words, AreTold, IsGraph, IsToldOf, MAX_FRAME};
 
 use crate::calls::calls_of;
 use c0_meaning::{Measured, frame_words};
@@ -27,7 +27,7 @@ pub(crate) enum Mark {
 
 // The words that are told of a function: 0 where none are.
 pub(crate) fn words_told(marks: &[Mark], function: u32) -> u64
-    ensures { result ≡ told (mark_of marks.now function) }
+    ensures { result ≡ told_words (mark_of marks.now function) }
 {
     match marks.get(function as usize) {
         Some(Mark::Ends(words)) => *words,
@@ -48,7 +48,7 @@ fn most_told(marks: &[Mark], functions: &[u32]) -> u64
 
 // Whether it is told of a function that it reaches no loop.
 fn is_end(marks: &[Mark], function: u32) -> bool
-    ensures { result ≡ tells.is_end (mark_of marks.now function) }
+    ensures { result ≡ tells.tells_no_loop (mark_of marks.now function) }
 {
     match marks.get(function as usize) {
         Some(Mark::Ends(_)) => true,

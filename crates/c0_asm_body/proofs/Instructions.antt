@@ -5,7 +5,7 @@ use Rattle.mips_table.specs.declared.inst.Inst.{Inst}
 use Rattle.mips_table.specs.declared.inst.Inst.TheVariants.{Sll, Srl, Sra, Sllv, Srlv, Srav, Jr, Jalr, Syscall, Add, Addu, Sub, Subu, And, Or, Xor, Nor, Slt, Sltu, Bltz, Bgez, J, Jal, Beq, Bne, Blez, Bgtz, Addi, Addiu, Slti, Sltiu, Andi, Ori, Xori, Lui, Mfc0, Mtc0, Eret, Lw, Sw, Mult, Multu, Div, Divu, Mfhi, Mthi, Mflo, Mtlo}
 use Rattle.mips_table.specs.declared.effect.Effect.TheVariants.{Set}
 use Rattle.mips_table.specs.Arith.{sum, difference, less, shifted_left, shifted_right, shifted_signed, nor, flag, extended}
-use Rattle.mips_table.specs.Effect.{effect_of, next}
+use Rattle.mips_table.specs.Effect.{effect_of, next_address}
 use Rattle.mips_table.specs.Code.{Contents, reg, effect_at}
 use Rattle.masm.specs.Says.{falls_through}
 use Rattle.c0_meaning.specs.Asm.{may_use, is_allowed}
@@ -20,25 +20,25 @@ pub record Sets (n : ℕ) (c : Contents) (regs : List ℕ) (i : Inst) : Type 0 w
   pub register : ℕ
   pub value : ℕ
   pub may : IsTrue (may_use register)
-  pub code : effect_at i n c ≡ Set register value (next (4 * n))
-  pub list : effect_of i 0 (slice_index regs) 0 0 ≡ Set register value (next 0)
+  pub code : effect_at i n c ≡ Set register value (next_address (4 * n))
+  pub list : effect_of i 0 (slice_index regs) 0 0 ≡ Set register value (next_address 0)
   pub straight : falls_through i ≡ true
 
 module _ (n : ℕ) (c : Contents) (regs : List ℕ) (same : Agree c regs) where
-  from_one : (i : Inst) (f : ℕ → ℕ) (d r : ℕ) → may_use d && may_use r ≡ true → effect_at i n c ≡ Set d (f (reg c.regs r)) (next (4 * n)) →
-      effect_of i 0 (slice_index regs) 0 0 ≡ Set d (f (slice_index regs r)) (next 0) → falls_through i ≡ true → Sets n c regs i
+  from_one : (i : Inst) (f : ℕ → ℕ) (d r : ℕ) → may_use d && may_use r ≡ true → effect_at i n c ≡ Set d (f (reg c.regs r)) (next_address (4 * n)) →
+      effect_of i 0 (slice_index regs) 0 0 ≡ Set d (f (slice_index regs r)) (next_address 0) → falls_through i ≡ true → Sets n c regs i
   from_one i f d r ok e l g = record {
     register = d;
     value = f (slice_index regs r);
     may = left (may_use d) (may_use r) ok;
-    code = e ∙ ap (λ v. Set d (f v) (next (4 * n))) (same r (right (may_use d) (may_use r) ok));
+    code = e ∙ ap (λ v. Set d (f v) (next_address (4 * n))) (same r (right (may_use d) (may_use r) ok));
     list = l;
     straight = g;
   }
 
   from_two : (i : Inst) (f : ℕ → ℕ → ℕ) (d r s : ℕ) → may_use d && (may_use r && may_use s) ≡ true → effect_at i n c ≡ Set d
-      (f (reg c.regs r) (reg c.regs s)) (next (4 * n)) → effect_of i 0 (slice_index regs) 0 0 ≡ Set d (f (slice_index regs r) (slice_index regs s))
-      (next 0) → falls_through i ≡ true → Sets n c regs i
+      (f (reg c.regs r) (reg c.regs s)) (next_address (4 * n)) → effect_of i 0 (slice_index regs) 0 0 ≡ Set d (f (slice_index regs r) (slice_index regs s))
+      (next_address 0) → falls_through i ≡ true → Sets n c regs i
   from_two i f d r s ok e l g =
       let rest = right (may_use d) (may_use r && may_use s) ok in
       record {
@@ -46,8 +46,8 @@ module _ (n : ℕ) (c : Contents) (regs : List ℕ) (same : Agree c regs) where
         value = f (slice_index regs r) (slice_index regs s);
         may = left (may_use d) (may_use r && may_use s) ok;
         code = e
-            ∙ ap (λ v. Set d (f v (reg c.regs s)) (next (4 * n))) (same r (left (may_use r) (may_use s) rest))
-            ∙ ap (λ v. Set d (f (slice_index regs r) v) (next (4 * n))) (same s (right (may_use r) (may_use s) rest));
+            ∙ ap (λ v. Set d (f v (reg c.regs s)) (next_address (4 * n))) (same r (left (may_use r) (may_use s) rest))
+            ∙ ap (λ v. Set d (f (slice_index regs r) v) (next_address (4 * n))) (same s (right (may_use r) (may_use s) rest));
         list = l;
         straight = g;
       }

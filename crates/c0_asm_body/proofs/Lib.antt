@@ -1,4 +1,4 @@
 mod Words
 mod Instructions
 mod Arguments
-mod Bodies
+mod BodiesRun

@@ -6,7 +6,7 @@ use Rattle.mips_table.specs.declared.inst.Inst.{Inst}
 use Rattle.mips_table.specs.Encoding.{InRange, encoding}
 use Rattle.mips_table.specs.Decoding.{decoding}
 use Rattle.c0_meaning.specs.Asm.{is_allowed, is_allowed_word, are_allowed_words}
-use Rattle.c0_asm_body.specs.Code.{inst_or_none, instruction_of, body_code}
+use Rattle.c0_asm_body.specs.Code.{inst_or_none, instruction_of, asm_body_code}
 use Rattle.c0_asm_body.specs.Laws.{AreEncoded}
 
 abbrev pub IsNot : Bool → Type 0
@@ -53,5 +53,5 @@ module _ (decoded : (word : ℕ) → IfSome (decoding word) (λ i. InRange i × 
       record {
         same = ap₂ (λ x xs. x ∷ xs) first.encoded rest.same;
         range = All-cons InRange (instruction_of word)
-            (body_code words) first.range rest.range;
+            (asm_body_code words) first.range rest.range;
       }

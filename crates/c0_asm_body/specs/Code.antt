@@ -23,9 +23,9 @@ abbrev pub instruction_of : ℕ → Inst
 instruction_of word = inst_or_none (decoding word)
 
 -- the instructions of words
-abbrev pub body_code : List ℕ → List Inst
-body_code words = map instruction_of words
+abbrev pub asm_body_code : List ℕ → List Inst
+asm_body_code words = map instruction_of words
 
 -- the arguments are set, of which there are so many, and the words run
 abbrev pub asm_code : ℕ → List ℕ → List Inst
-asm_code count words = arguments_code count ++ body_code words
+asm_code count words = arguments_code count ++ asm_body_code words

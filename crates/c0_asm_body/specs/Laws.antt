@@ -8,7 +8,7 @@ use Rattle.cvm_words.specs.Words.{word_of}
 use Rattle.c0_meaning.specs.Value.{Values, empty, part, int, count}
 use Rattle.c0_meaning.specs.Asm.{are_allowed_words}
 use Rattle.c0_meaning.specs.AsmBody.{asm_result}
-use Rattle.c0_asm_body.specs.Code.{body_code, asm_code}
+use Rattle.c0_asm_body.specs.Code.{asm_body_code, asm_code}
 
 -- these are ints, and the registers from r on have their words
 abbrev pub HoldInts : (ℕ → ℕ) → ℕ → Values → Type 0
@@ -36,5 +36,5 @@ AsmRuns w = (words : List ℕ) (args : Values) (n : ℕ) (c : Contents) (d : Beh
 
 -- words that an asm body may have are those of their instructions, which are in range
 pub record AreEncoded (words : List ℕ) : Type 0 where
-  pub same : map encoding (body_code words) ≡ words
-  pub range : All InRange (body_code words)
+  pub same : map encoding (asm_body_code words) ≡ words
+  pub range : All InRange (asm_body_code words)

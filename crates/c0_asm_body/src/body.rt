@@ -3,7 +3,7 @@
 ghost use Rattle.std.specs.Prelude.{◌≡◌, ◌++◌, ◌<◌, ◌≤◌, map, OnOk, OnErr, IsTrue};
 ghost use Rattle.mips_table.specs.Encoding.{InRange, encoding};
 ghost use Rattle.c0_meaning.specs.Asm.{are_allowed_words};
-ghost use Rattle.c0_asm_body.specs.Code.{argument_code, arguments_code, body_code};
+ghost use Rattle.c0_asm_body.specs.Code.{argument_code, arguments_code, asm_body_code};
 
 use crate::laws::bodies_are_encoded;
 use c0_tree::AsmText;
@@ -19,7 +19,7 @@ use std::vec::Vec;
 pub fn emit_asm(_alloc: Global, text: &AsmText, code: &mut Vec<u32>) -> Result<(), AllocError>
     requires { IsTrue (are_allowed_words text.now.words.items) }
     ensures appended { OnOk result (code.new.items ≡ code.old.items ++ text.now.words.items) }
-    ensures instructions { map encoding (body_code text.now.words.items) ≡ text.now.words.items }
+    ensures instructions { map encoding (asm_body_code text.now.words.items) ≡ text.now.words.items }
     ensures unchanged { OnErr result (code.new.items ≡ code.old.items) }
 {
     bodies_are_encoded();

@@ -6,10 +6,10 @@ use Rattle.std.specs.Borrow.{Bor}
 use Rattle.mips_asm.specs.Text.{asm_lines}
 
 -- the words of a line, if it is allowed
-abbrev pub line_view : Line → Option (List ℕ)
-line_view Blank = Some []
-line_view (Word w) = Some (w ∷ [])
-line_view NotAllowed = None
+abbrev pub allowed_line_view : Line → Option (List ℕ)
+allowed_line_view Blank = Some []
+allowed_line_view (Word w) = Some (w ∷ [])
+allowed_line_view NotAllowed = None
 
 -- the lines of what is left of a text, if anything is
 abbrev pub lines_left : Option (Bor (List ℕ)) → List (List ℕ)

@@ -6,7 +6,7 @@ ghost use Rattle.std.specs.Char.{is_ascii_whitespace};
 ghost use Rattle.mips_asm.specs.Text.{content as content_of, trim_start as trim_start_of};
 ghost use Rattle.c0_meaning.specs.Asm.{may_use as may_use_of, is_allowed as is_allowed_of, is_allowed_word as is_allowed_word_of};
 ghost use Rattle.c0_asm_text.specs.AsmText.{is_plain_line as is_plain_of, allowed as allowed_of, line_words};
-ghost use Rattle.c0_asm_text.specs.View.{line_view};
+ghost use Rattle.c0_asm_text.specs.View.{allowed_line_view};
 
 use mips_asm::{AsmFault, assemble};
 use mips_table::{Inst, decode};
@@ -150,7 +150,7 @@ fn has_dot(line: &[u8]) -> bool
 
 // What a line says that assembles by itself to these words.
 fn of_words(words: &[u32]) -> Line
-    ensures { line_view result ≡ allowed_of words.now }
+    ensures { allowed_line_view result ≡ allowed_of words.now }
 {
     match words {
         [] => Line::Blank,
@@ -168,7 +168,7 @@ fn of_words(words: &[u32]) -> Line
 /// What a line says.
 #[tactic(auto, unfolding(crate::specs::AsmText::line_words))]
 pub fn read_line(alloc: Global, line: &[u8]) -> Result<Line, AllocError>
-    ensures { IfOk result (λ r. line_view r ≡ line_words line.now) }
+    ensures { IfOk result (λ r. allowed_line_view r ≡ line_words line.now) }
 {
     if has_colon(line) || has_dot(line) {
         return Ok(Line::NotAllowed);

@@ -6,7 +6,7 @@ ghost use Rattle.std.specs.Option.{option_or};
 ghost use Rattle.mips_asm.specs.Text.{asm_lines};
 ghost use Rattle.c0_meaning.specs.Asm.{are_allowed_words};
 ghost use Rattle.c0_asm_text.specs.AsmText.{words_if, text_words, bad_line};
-ghost use Rattle.c0_asm_text.specs.View.{line_view, lines_left};
+ghost use Rattle.c0_asm_text.specs.View.{allowed_line_view, lines_left};
 
 use crate::line::{Line, len_before, read_line};
 use std::alloc::{AllocError, Global};
@@ -36,8 +36,8 @@ fn cut(text: &[u8]) -> (&[u8], Option<&[u8]>)
 
 // Adds what a line says, which has this number.
 fn add(reading: &mut AsmReading, line: Line, number: u64) -> Result<(), AllocError>
-    ensures words { OnOk result (reading.new.words.items ≡ reading.old.words.items ++ words_if (line_view line)) }
-    ensures bad { OnOk result (reading.new.bad_line ≡ option_or reading.old.bad_line (if is_some (line_view line) then None else Some number)) }
+    ensures words { OnOk result (reading.new.words.items ≡ reading.old.words.items ++ words_if (allowed_line_view line)) }
+    ensures bad { OnOk result (reading.new.bad_line ≡ option_or reading.old.bad_line (if is_some (allowed_line_view line) then None else Some number)) }
 {
     match line {
         Line::Blank => {}

@@ -8,9 +8,9 @@ use Rattle.c0_tree.specs.Tree.{CName, CExpr, null, field, arrow, index, address,
 use Rattle.c0_meaning.specs.Ty.{Ty}
 use Rattle.c0_meaning.specs.Env.{Env, Typed}
 use Rattle.c0_meaning.specs.Fault.{Fault, kept_all}
-use Rattle.c0_meaning.specs.Expression.{Verdict, type_given, own, one, both, is_lvalue, is_local, span_of, is_null, is_pointer, filled, type_asked, asked_faults, compares, operand_type, member, target, place_field_rule, arrow_rule, index_rule, address_rule, binary_rule, type_of, faults, numbered_field, resolved}
+use Rattle.c0_meaning.specs.Expression.{Verdict, type_given, own, one, both, is_lvalue, is_local, span_of, is_null, is_pointer, is_null_for, type_asked, asked_faults, compares, operand_type, member, target, place_field_rule, arrow_rule, index_rule, address_rule, binary_rule, type_of, faults, numbered_field, resolved}
 use Rattle.c0_body_check.specs.Check.{SettlesType, Checks, ChecksAsked}
-use Rattle.c0_name_check.proofs.Meeting.{kept_all-append}
+use Rattle.c0_name_check.proofs.FaultsMet.{kept_all-append}
 
 -- the same of an expression that is seen otherwise
 pub seen : (env : Env) (x y : CExpr) (t : Option Ty) (m n : Option Fault) (new after : CExpr) → x ≡ y → new ≡ after → Checks env y t m n after → Checks env x t m n new
@@ -115,8 +115,8 @@ null_has_none env (null s) h = refl
 null_has_none env _ h = cc
 
 -- a null has no type, so it asks nothing of the operand beside it
-unfilled_beside : (env : Env) (o : BinaryOp) (a b : CExpr) → is_null a ≡ true → filled (operand_type o (type_of env a)) b ≡ false
-unfilled_beside env o a b h = ap (λ t. filled (operand_type o t) b) (null_has_none env a h) ∙ none_asks (compares o) (is_null b)
+unfilled_beside : (env : Env) (o : BinaryOp) (a b : CExpr) → is_null a ≡ true → is_null_for (operand_type o (type_of env a)) b ≡ false
+unfilled_beside env o a b h = ap (λ t. is_null_for (operand_type o t) b) (null_has_none env a h) ∙ none_asks (compares o) (is_null b)
   where
     none_asks : (x y : Bool) → (y && is_pointer (if x then None else None)) ≡ false
     none_asks true true = refl
@@ -125,7 +125,7 @@ unfilled_beside env o a b h = ap (λ t. filled (operand_type o t) b) (null_has_n
     none_asks false false = refl
 
 -- nothing is filled but a null
-unfilled : (want : Option Ty) (e : CExpr) → is_null e ≡ false → filled want e ≡ false
+unfilled : (want : Option Ty) (e : CExpr) → is_null e ≡ false → is_null_for want e ≡ false
 unfilled want e h = ap (λ (x : Bool). x && is_pointer want) h
 
 -- an operand that is not filled counts as it is

@@ -12,7 +12,7 @@ use Rattle.c0_meaning.specs.Statement.{MAX_NEED, same_rule, given_verdict, given
 use Rattle.c0_body_check.specs.Check.{SettlesType, Checks, ChecksAsked}
 use Rattle.c0_body_check.specs.Stmts.{ChecksGiven, ChecksTested, ChecksLeft, ChecksArgs}
 use Rattle.c0_body_check.proofs.NodeChecks.{one_part}
-use Rattle.c0_name_check.proofs.Meeting.{kept_all-append, two_met}
+use Rattle.c0_name_check.proofs.FaultsMet.{kept_all-append, two_met}
 use Rattle.c0_body_check.proofs.InPlace.{rest, rest-next}
 
 pub given_part : (env : Env) (want a w b : Option Ty) (e : CExpr) (s : Span) (m n n' : Option Fault) (new : CExpr)

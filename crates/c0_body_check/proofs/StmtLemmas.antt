@@ -8,7 +8,7 @@ use Rattle.c0_meaning.specs.Env.{Env}
 use Rattle.c0_meaning.specs.Fault.{Fault, kept_all}
 use Rattle.c0_body_check.specs.Stmts.{ChecksStmts, faults_of_stmt, faults_of_stmts, resolved_of_stmt, resolved_of_stmts}
 use Rattle.c0_body_check.proofs.InPlace.{rest, rest-next}
-use Rattle.c0_name_check.proofs.Meeting.{kept_all-append}
+use Rattle.c0_name_check.proofs.FaultsMet.{kept_all-append}
 
 -- a statement has no more nodes than the list that it is of
 pub nodes_within : (i : ℕ) (ss : List CStmt) (d : CStmt) → i < length ss → stmt_nodes (get_or ss i d) ≤ stmts_nodes (stmts_of ss)

@@ -22,7 +22,7 @@ use c0_tree::{BinaryOp, Expr};
 
 // Whether an expression is a `null` of which a particular pointer type is asked.
 fn is_filled(want: Found<'_>, expr: &Expr) -> bool
-    ensures { result ≡ spec.filled (found_view want.entry) (expr_view expr.now) }
+    ensures { result ≡ spec.is_null_for (found_view want.entry) (expr_view expr.now) }
 {
     is_null(expr) && is_pointer_form(want.form())
 }

@@ -11,7 +11,7 @@ use Rattle.mips_table.specs.Code.{World}
 use Rattle.c0_tree.specs.Tree.{CTy, CDecl, CStruct, CFunction, CUnit}
 use Rattle.c0_tree.specs.Tree as tree
 use Rattle.c0_tree.specs.Primitives.{CPrimitive}
-use Rattle.masm.specs.declared.registers.Places.{Places}
+use Rattle.masm.specs.declared.registers.CodeAddresses.{CodeAddresses}
 use Rattle.c0_meaning.specs.Ty.{Ty, ty_of, is_scalar}
 use Rattle.c0_meaning.specs.Ty as ty
 use Rattle.c0_meaning.specs.Env.{Typed, Shape, shape_of, typed_of, first_named, fields_of}
@@ -157,30 +157,30 @@ module _ (primitives : List CPrimitive) (u : CUnit) (formed : IsWellFormed primi
   some_words : (t : Ty) → IsDeclared (shapes u) t → 1 ≤ words (shapes u) t
   some_words t h = subst (λ y. 1 ≤ words (shapes u) y) h.1 (filled primitives u formed h.0 h.2)
 
-  module _ (f : CFunction) (number : ℕ) (there : slice_get u.functions number ≡ Some f) (places : Places) (w : World) (p : Bases) (room : RegionsHaveRoom w (scope_of u f places) p) (spread : RegionsApart (scope_of u f places) p) (objects : AreDeclared (shapes u) p.objects) where
-    all_declared : (g : Region) → AreDeclared (shapes u) (types_in (scope_of u f places) p g)
+  module _ (f : CFunction) (number : ℕ) (there : slice_get u.functions number ≡ Some f) (addresses : CodeAddresses) (w : World) (p : Bases) (room : RegionsHaveRoom w (scope_of u f addresses) p) (spread : RegionsApart (scope_of u f addresses) p) (objects : AreDeclared (shapes u) p.objects) where
+    all_declared : (g : Region) → AreDeclared (shapes u) (types_in (scope_of u f addresses) p g)
     all_declared globals = declared (shapes u) u.globals typed.globals
     all_declared heap = objects
     all_declared locals =
         let s = (get_all (IsTypedFunction primitives u) u.functions number f typed.functions there).signature in
         declared_both (shapes u) f.params (locals_of f.body) (declared (shapes u) f.params s.params) (declared (shapes u) (locals_of f.body) s.locals)
 
-    one_word : (g : Region) (path : List ℕ) (t : Ty) → LeadsFrom (shapes u) (types_in (scope_of u f places) p g) path t → 1 ≤ words (shapes u) t
-    one_word g path t l = some_words t (part_of u.structs typed.structs (types_in (scope_of u f places) p g) path t (all_declared g) l)
+    one_word : (g : Region) (path : List ℕ) (t : Ty) → LeadsFrom (shapes u) (types_in (scope_of u f addresses) p g) path t → 1 ≤ words (shapes u) t
+    one_word g path t l = some_words t (part_of u.structs typed.structs (types_in (scope_of u f addresses) p g) path t (all_declared g) l)
 
-    by_region : (t : Ty) (a b : Region) (x y : List ℕ) → PointsTo (shapes u) (layout (scope_of u f places) p) a x t
-        → PointsTo (shapes u) (layout (scope_of u f places) p) b y t
-        → location_word (scope_of u f places) p (record { region = a; path = x }) ≡ location_word (scope_of u f places) p (record { region = b; path = y })
+    by_region : (t : Ty) (a b : Region) (x y : List ℕ) → PointsTo (shapes u) (layout (scope_of u f addresses) p) a x t
+        → PointsTo (shapes u) (layout (scope_of u f addresses) p) b y t
+        → location_word (scope_of u f addresses) p (record { region = a; path = x }) ≡ location_word (scope_of u f addresses) p (record { region = b; path = y })
         → ◌≡◌ {A = Location} (record { region = a; path = x }) (record { region = b; path = y })
-    by_region t globals globals x y h g e = ap (λ z. record { region = globals; path = z }) (apart primitives u (types_in (scope_of u f places) p globals) x y t formed h g (one_word globals x t h) (omega (arith, e)))
+    by_region t globals globals x y h g e = ap (λ z. record { region = globals; path = z }) (apart primitives u (types_in (scope_of u f addresses) p globals) x y t formed h g (one_word globals x t h) (omega (arith, e)))
     by_region t heap heap x y h g e = ap (λ z. record { region = heap; path = z }) (apart primitives u p.objects x y t formed h g (one_word heap x t h) (omega (arith, e)))
     by_region t globals heap x y h g e =
-        let r = room_from (shapes u) opened (types_in (scope_of u f places) p globals) x t h in
+        let r = room_from (shapes u) opened (types_in (scope_of u f addresses) p globals) x t h in
         let some = one_word globals x t h in
         let order = spread.heap_behind in
         absurd (omega (arith, r, some, order, e))
     by_region t heap globals x y h g e =
-        let r = room_from (shapes u) opened (types_in (scope_of u f places) p globals) y t g in
+        let r = room_from (shapes u) opened (types_in (scope_of u f addresses) p globals) y t g in
         let some = one_word globals y t g in
         let order = spread.heap_behind in
         absurd (omega (arith, r, some, order, e))
@@ -195,7 +195,7 @@ module _ (primitives : List CPrimitive) (u : CUnit) (formed : IsWellFormed primi
         let below = slice_get_within (variable_types f) n t e in
         (passes is_scalar (variable_types f) n t b.1 e, omega (arith, few, below))
 
-    pub area : Area w (scope_of u f places) p
+    pub area : Area w (scope_of u f addresses) p
     area =
         let order = spread.heap_behind in
         let last = room.heap in

@@ -17,7 +17,7 @@ use Rattle.c0_meaning.specs.Evaluation.{Costed, at_no_cost, element_of, indexed}
 use Rattle.c0_meaning.specs.TypedState.{Fits, PathLeads}
 use Rattle.c0_expr_code.proofs.Paths.{leads_from_on, points_on, length_fits}
 use Rattle.masm.specs.Says.{Gives as Becomes}
-use Rattle.c0_expr_code.proofs.Machine.{Machine, joined, later, code_front, code_back, said_step}
+use Rattle.c0_expr_code.proofs.CodeRuns.{Machine, joined, later, code_front, code_back, said_step}
 use Rattle.cvm_words.specs.Words.{word_of}
 use Rattle.c0_expr_code.specs.Scope.{Scope}
 use Rattle.c0_expr_code.specs.Bases.{Bases, types_in, location_word}
@@ -25,13 +25,13 @@ use Rattle.c0_expr_code.specs.Code.{AddressingMode, Made, constant_code, operand
 use Rattle.c0_expr_code.specs.Relation.{layout, StateIsTyped, Ready, KeepsRegisters, Area, Evaluates, HoldsValue, HoldsAddress, Source}
 use Rattle.c0_expr_code.proofs.Words.{plain, word_pos, word_negsuc, pos_small}
 use Rattle.c0_expr_code.proofs.Offsets.{offset_from_on}
-use Rattle.c0_expr_code.proofs.Steps.{same_read, other_read, keeps_on, keeps_in, keeps_put, keeps_one, keeps_low, ready_on, source_other, source_kept, binds, arrives, faults, jumps}
+use Rattle.c0_expr_code.proofs.SideBySide.{same_read, other_read, keeps_on, keeps_in, keeps_put, keeps_one, keeps_low, ready_on, source_other, source_kept, binds, arrives, faults, jumps}
 use Rattle.c0_expr_code.proofs.AddressingModes.{found}
 use Rattle.c0_expr_code.proofs.Nodes.{constant_runs, skips, falls}
 use Rattle.c0_expr_code.proofs.Scales.{all_kept, scales}
 use Rattle.c0_meaning.specs.Ty as ty
 
-module _ (w : World) (sc : Scope) (p : Bases) (s : C0State) (f : Machine w) (area : Area w sc p) (is_typed : StateIsTyped sc p s) where
+module _ (w : World) (sc : Scope) (p : Bases) (live : ℕ → Bool) (s : C0State) (f : Machine w) (area : Area w sc p) (is_typed : StateIsTyped sc p s) where
   -- the test
   record Tested (q len n : ℕ) (a : Contents) (k : Behind) : Type 0 where
     core : Contents
@@ -52,7 +52,7 @@ module _ (w : World) (sc : Scope) (p : Bases) (s : C0State) (f : Machine w) (are
     | inr e ↦
         let same : bound_code q len ≡ constant_code 1 len ++ (Sltu 1 q 1 ∷ []) = cond-false (nat_lt len (2 ^ 15)) (Sltiu 1 q len ∷ []) (constant_code 1 len ++ (Sltu 1 q 1 ∷ [])) e in
         let there = subst (CodeAt w n) same code in
-        let first = constant_runs w sc p s f area is_typed 1 1 len n a k short idle (λ z. absurd (omega (arith, z))) (code_front w n (constant_code 1 len) (Sltu 1 q 1 ∷ []) there) in
+        let first = constant_runs w sc p live s f area is_typed 1 1 len n a k short idle (λ z. absurd (omega (arith, z))) (code_front w n (constant_code 1 len) (Sltu 1 q 1 ∷ []) there) in
         let b : Contents = first.0 in
         let value : flag (nat_lt (reg first.0.regs q) (reg first.0.regs 1)) ≡ flag (nat_lt (reg a.regs q) len) = ap₂ (λ y z. flag (nat_lt y z)) (first.3 q ne) first.1 in
         let two = said_step w f (Sltu 1 q 1) (Becomes (flag (nat_lt (reg a.regs q) len))) (n + length (constant_code 1 len)) first.0 k (code_back w n (constant_code 1 len) (Sltu 1 q 1 ∷ []) there).0 refl idle value in
@@ -67,21 +67,21 @@ module _ (w : World) (sc : Scope) (p : Bases) (s : C0State) (f : Machine w) (are
   ]
 
   -- an index that is tested
-  pub indexes : (len : ℕ) (t : Ty) (local : Bool) (x : AddressingMode) (m : Made) (r n : ℕ) (c : Contents) (k : Behind) (e : Costed Location) (i : Costed Value) → k.pending ≡ Idle → 8 ≤ r → r < 19 → Ready sc p s c → Source r x.base →
+  pub indexes : (len : ℕ) (t : Ty) (local : Bool) (x : AddressingMode) (m : Made) (r n : ℕ) (c : Contents) (k : Behind) (e : Costed Location) (i : Costed Value) → k.pending ≡ Idle → 8 ≤ r → r < 19 → Ready sc p live s c → Source r x.base →
       CodeAt w n (tested_address sc (words sc.env.structs t) len x m r).code →
       Evaluates w sc 0 n (n + length x.code) c k (HoldsAddress sc p x.base x.displacement r local (ty.array t len) c) e →
-      ((b : Contents) → Ready sc p s b → CodeAt w (n + length x.code) (operand_code m (r + 1)) → Source (r + 1) (operand_register m (r + 1)) × Evaluates w sc 0 (n + length x.code) (n + length x.code + length (operand_code m (r + 1))) b k (HoldsValue sc p (operand_register m (r + 1)) (r + 1) (r + 1) ty.int b) i) →
+      ((b : Contents) → Ready sc p live s b → CodeAt w (n + length x.code) (operand_code m (r + 1)) → Source (r + 1) (operand_register m (r + 1)) × Evaluates w sc 0 (n + length x.code) (n + length x.code + length (operand_code m (r + 1))) b k (HoldsValue sc p (operand_register m (r + 1)) (r + 1) (r + 1) ty.int b) i) →
       Evaluates w sc 10 n (n + length (tested_address sc (words sc.env.structs t) len x m r).code) c k (HoldsAddress sc p r x.displacement r local t c) (indexed s e i)
   indexes len t local x m r n c k e i idle lo hi ready source code h op =
       binds w sc 0 10 n n1 to c k (HoldsAddress sc p x.base x.displacement r local (ty.array t len) c) (HoldsAddress sc p r x.displacement r local t c) e _ h
       (λ l b q. keeps_low r r c b (omega arith) q.keeps)
       (λ l b q.
-      let ready_b = ready_on sc p s c b (keeps_low r r c b (omega arith) q.keeps) ready in
+      let ready_b = ready_on sc p live s c b (keeps_low r r c b (omega arith) q.keeps) ready in
       let o = op b ready_b operand_there in
       binds w sc 0 10 n1 n2 to b k (HoldsValue sc p (operand_register m (r + 1)) (r + 1) (r + 1) ty.int b) (HoldsAddress sc p r x.displacement r local t c) i _ o.1
       (λ v a g. keeps_low (r + 1) (r + 1) b a (omega arith) g.keeps)
       (λ v a g.
-      let there = found w sc p s f area is_typed b l (ty.array t len) ready_b q.leads q.standing in
+      let there = found w sc p live s f area is_typed b l (ty.array t len) ready_b q.leads q.standing in
       subst (λ y. Evaluates w sc 10 n2 to a k (HoldsAddress sc p r x.displacement r local t c) (at_no_cost (element_of l y v))) (sym there.seen.is)
       (by_value l b q ready_b a o.0 there.seen.value v there.seen.fits g)))
     where
@@ -137,23 +137,23 @@ module _ (w : World) (sc : Scope) (p : Bases) (s : C0State) (f : Machine w) (are
       outside a v short ne out is =
           let test = tests q len n2 a k short idle ne (code_front w n2 (bound_code q len) tail last_there) in
           let zero_is : reg test.core.regs 1 ≡ reg test.core.regs 0 = test.is ∙ ap (λ y. flag (nat_lt y len)) is ∙ ap flag out in
-          let go = falls w sc p s f area is_typed n3 1 0 test.core k idle tail_there.0 zero_is in
+          let go = falls w sc p live s f area is_typed n3 1 0 test.core k idle tail_there.0 zero_is in
           let run = joined w 3 2 _ _ _ test.run (joined w 1 1 _ _ _ go (jumps w f (n3 + 1) (sc.exit Bounds) test.core k idle tail_there.1.0)) in
           faults w sc 10 n2 to a test.core k Out Bounds (keeps_low 0 0 a test.core (omega arith) (test.keeps 0)) (later w 5 10 _ _ (omega arith) run)
 
-      inside : (l : Location) (b : Contents) (g : HoldsAddress sc p x.base x.displacement r local (ty.array t len) c l b) (ready_b : Ready sc p s b) (a : Contents) (j : ℕ) → Source (r + 1) q → KeepsRegisters (r + 1) (r + 1) b a → nat_lt j len ≡ true → reg a.regs q ≡ j → j < 2 ^ 31 → len < 2 ^ 32 → Evaluates w sc 10 n2 to a k Out (at_no_cost (Ok (below l j)))
+      inside : (l : Location) (b : Contents) (g : HoldsAddress sc p x.base x.displacement r local (ty.array t len) c l b) (ready_b : Ready sc p live s b) (a : Contents) (j : ℕ) → Source (r + 1) q → KeepsRegisters (r + 1) (r + 1) b a → nat_lt j len ≡ true → reg a.regs q ≡ j → j < 2 ^ 31 → len < 2 ^ 32 → Evaluates w sc 10 n2 to a k Out (at_no_cost (Ok (below l j)))
       inside l b g ready_b a j src keeps within is low short =
           let ne = source_other (r + 1) q (omega arith) src in
           let test = tests q len n2 a k short idle ne (code_front w n2 (bound_code q len) tail last_there) in
           let one_is : reg test.core.regs 1 ≡ 1 = test.is ∙ ap (λ y. flag (nat_lt y len)) is ∙ ap flag within in
-          let go = skips w sc p s f area is_typed n3 1 0 test.core k idle tail_there.0 (λ z. let z0 : reg test.core.regs 1 ≡ 0 = z in absurd (omega (arith, z0, one_is))) in
+          let go = skips w sc p live s f area is_typed n3 1 0 test.core k idle tail_there.0 (λ z. let z0 : reg test.core.regs 1 ≡ 0 = z in absurd (omega (arith, z0, one_is))) in
           let path : PathLeads sc.env.structs (ty.array t len) (j ∷ []) t = (ltb-true j len within, refl) in
           let leads = leads_from_on sc.env.structs (types_in sc p l.region) l.path (ty.array t len) j t g.leads path in
-          let there = found w sc p s f area is_typed b (below l j) t ready_b leads g.standing in
+          let there = found w sc p live s f area is_typed b (below l j) t ready_b leads g.standing in
           let room = there.inside in
           let small = f.sound.small in
           let few : 4 * words sc.env.structs t < 2 ^ 31 = omega (arith, room, small) in
-          let scaled = scales w sc p s f area is_typed (words sc.env.structs t) q (n3 + 2) test.core k idle ne few (let z = test.others q ne ∙ is in omega (arith, z, low)) (code_front w (n3 + 2) (scale_code (words sc.env.structs t) q) (Addu r x.base 1 ∷ []) scale_there) in
+          let scaled = scales w sc p live s f area is_typed (words sc.env.structs t) q (n3 + 2) test.core k idle ne few (let z = test.others q ne ∙ is in omega (arith, z, low)) (code_front w (n3 + 2) (scale_code (words sc.env.structs t) q) (Addu r x.base 1 ∷ []) scale_there) in
           let number : 4 * (words sc.env.structs t * reg test.core.regs q) % 2 ^ 32 ≡ 4 * (words sc.env.structs t * j) % 2 ^ 32 = ap (λ y. 4 * (words sc.env.structs t * y) % 2 ^ 32) (test.others q ne ∙ is) in
           let base_other = source_other r x.base lo source in
           let base : reg scaled.core.regs x.base ≡ reg b.regs x.base = scaled.others x.base base_other ∙ test.others x.base base_other ∙ source_kept r x.base b a lo hi source keeps in
@@ -179,7 +179,7 @@ module _ (w : World) (sc : Scope) (p : Bases) (s : C0State) (f : Machine w) (are
               → (sum base (4 * more % 2 ^ 32) + shift) % 2 ^ 32 ≡ 4 * there
           address base shift further from there h e small = omega arith
 
-      by_test : (l : Location) (b : Contents) (g : HoldsAddress sc p x.base x.displacement r local (ty.array t len) c l b) (ready_b : Ready sc p s b) (a : Contents) (j : ℕ) → Source (r + 1) q → KeepsRegisters (r + 1) (r + 1) b a → reg a.regs q ≡ j → j < 2 ^ 31 → len < 2 ^ 32 → (y : Bool) → nat_lt j len ≡ y → Evaluates w sc 10 n2 to a k Out (at_no_cost (if y then Ok (below l j) else Err (faulted Bounds)))
+      by_test : (l : Location) (b : Contents) (g : HoldsAddress sc p x.base x.displacement r local (ty.array t len) c l b) (ready_b : Ready sc p live s b) (a : Contents) (j : ℕ) → Source (r + 1) q → KeepsRegisters (r + 1) (r + 1) b a → reg a.regs q ≡ j → j < 2 ^ 31 → len < 2 ^ 32 → (y : Bool) → nat_lt j len ≡ y → Evaluates w sc 10 n2 to a k Out (at_no_cost (if y then Ok (below l j) else Err (faulted Bounds)))
       by_test l b g ready_b a j src keeps is low short true e = inside l b g ready_b a j src keeps e is low short
       by_test l b g ready_b a j src keeps is low short false e = outside a j short (source_other (r + 1) q (omega arith) src) e is
 
@@ -187,14 +187,14 @@ module _ (w : World) (sc : Scope) (p : Bases) (s : C0State) (f : Machine w) (are
       wide n zero h = absurd (omega (arith, h))
       wide n (suc m) h = let z = mul_comm n (suc m) in omega (arith, z)
 
-      short_array : (l : Location) (b : Contents) → HoldsAddress sc p x.base x.displacement r local (ty.array t len) c l b → Ready sc p s b → len < 2 ^ 32
+      short_array : (l : Location) (b : Contents) → HoldsAddress sc p x.base x.displacement r local (ty.array t len) c l b → Ready sc p live s b → len < 2 ^ 32
       short_array l b g ready_b =
-          let room = (found w sc p s f area is_typed b l (ty.array t len) ready_b g.leads g.standing).inside in
+          let room = (found w sc p live s f area is_typed b l (ty.array t len) ready_b g.leads g.standing).inside in
           let some = wide len (words sc.env.structs t) (area.filled l.region l.path (ty.array t len) g.leads) in
           let small = f.sound.small in
           omega (arith, room, some, small)
 
-      by_value : (l : Location) (b : Contents) (g : HoldsAddress sc p x.base x.displacement r local (ty.array t len) c l b) (ready_b : Ready sc p s b) (a : Contents) → Source (r + 1) q → (y v : Value) → Fits sc.env.structs (layout sc p) (ty.array t len) y → HoldsValue sc p q (r + 1) (r + 1) ty.int b v a → Evaluates w sc 10 n2 to a k Out (at_no_cost (element_of l (Some y) v))
+      by_value : (l : Location) (b : Contents) (g : HoldsAddress sc p x.base x.displacement r local (ty.array t len) c l b) (ready_b : Ready sc p live s b) (a : Contents) → Source (r + 1) q → (y v : Value) → Fits sc.env.structs (layout sc p) (ty.array t len) y → HoldsValue sc p q (r + 1) (r + 1) ty.int b v a → Evaluates w sc 10 n2 to a k Out (at_no_cost (element_of l (Some y) v))
       by_value l b g ready_b a src (group vs) (int (pos j)) fits h =
           let is : reg a.regs q ≡ j = h.is ∙ word_pos j h.fits in
           let c0 : count vs ≡ len = length_fits sc.env.structs (layout sc p) len t vs fits in
@@ -203,7 +203,7 @@ module _ (w : World) (sc : Scope) (p : Bases) (s : C0State) (f : Machine w) (are
         where
           too_large : (j : ℕ) → Fits sc.env.structs (layout sc p) ty.int (int (negsuc j)) → len ≤ word_of (negsuc j)
           too_large j fits = let big = word_negsuc j fits in
-              let room = (found w sc p s f area is_typed b l (ty.array t len) ready_b g.leads g.standing).inside in
+              let room = (found w sc p live s f area is_typed b l (ty.array t len) ready_b g.leads g.standing).inside in
               let some = wide len (words sc.env.structs t) (area.filled l.region l.path (ty.array t len) g.leads) in
               let small = f.sound.small in
               omega (arith, big, room, some, small)

@@ -1,8 +1,9 @@
 -- The code of every typed expression comes to what it means.
-use Rattle.std.specs.Prelude.{ℤ, Ok, Err, pos, slice_get, FitsSigned, if◌then◌else◌, unwrap_or, Result}
+use Rattle.std.specs.Prelude.{ℤ, Ok, Err, pos, slice_get, FitsSigned, if◌then◌else◌, unwrap_or, IsTrue, Result}
 use Rattle.std.specs.Int.{w32}
 use Rattle.std.proofs.Common.{◌≡◌, ◌≢◌, ℕ, zero, suc, max, ◌+◌, ◌*◌, ◌%◌, ◌^◌, ◌<◌, ◌≤◌, Bool, true, false, cond, nat_eq, nat_lt, Option, Some, None, List, [], ◌∷◌, ◌++◌, length, refl, sym, ap, ◌∙◌, subst, arith, length-append}
 use Rattle.std.proofs.lemmas.Bool.{cond-true, ltb-true, eqb-true}
+use Rattle.std.proofs.Common.{eq-eqb}
 use Rattle.mips_table.specs.declared.inst.Inst.{Inst}
 use Rattle.mips_table.specs.declared.inst.Inst.TheVariants.{Addiu, Subu, Xori, Beq, Bne, J, Mflo, Mfhi, Div as Divide}
 use Rattle.mips_table.specs.Device.{Idle}
@@ -21,7 +22,7 @@ use Rattle.c0_meaning.specs.Env.{Typed}
 use Rattle.c0_meaning.specs.Words.{fields_named, words}
 use Rattle.c0_meaning.specs.Sizes.{words_before}
 use Rattle.c0_meaning.specs.Expression.{is_lvalue, target}
-use Rattle.c0_meaning.specs.Judgement.{IsArithmetic, add, sub, mul, div, rem, IsOrder, lt, le, gt, ge, IsEquality, eq, ne, IsLogical, and, or}
+use Rattle.c0_meaning.specs.Judgement.{IsArithmetic, add, sub, mul, div, rem, IsOrdering, lt, le, gt, ge, IsEquality, eq, ne, IsLogical, and, or}
 use Rattle.c0_meaning.specs.Numbered.{variable_at, is_in_frame, is_frame_place, HasNumberedType, a_number, a_true, a_false, a_variable, a_field, a_target_field, an_element, a_target, an_address, a_negative, a_negation, arithmetic, order, logic, equality, null_left, null_right, IsNumberedGiven, a_value, a_null}
 use Rattle.c0_meaning.specs.Value.{Region, globals, heap, locals, Location, Value, int, bool, at, group}
 use Rattle.c0_meaning.specs.Value as value
@@ -32,15 +33,17 @@ use Rattle.c0_meaning.specs.TypeAt.{type_at}
 use Rattle.c0_meaning.specs.TypedState.{types_of, Fits, PathLeads}
 use Rattle.cvm_words.specs.Words.{word_of}
 use Rattle.c0_expr_code.specs.Scope.{Scope}
-use Rattle.c0_expr_code.specs.Bases.{Bases, types_in, word}
-use Rattle.c0_expr_code.specs.Code.{fields_in, element_words, length_in, AddressingMode, Made, constant_code, or_code, access_code, load_code, operand_code, operand_register, at_place, constant, global_address, local_address, register_made, register_of, local_made, variable_made, displaced, target_address, tested_address, element_address, operator_code, two_code, one_code, logic_code, negative_made, unary_made, Immediate, immediate, immediate_of, operator_made, sum_made, is_sure, divisor_code, division_made, binary_made, field_made, made}
-use Rattle.c0_expr_code.specs.Relation.{layout, StateIsTyped, Ready, Area, Evaluates, HoldsValue, HoldsAddress, Source, nought, its, far, ValueRuns, OperandRuns, Claims, Right}
-use Rattle.c0_expr_code.proofs.Machine.{Machine, later, stays, code_front, code_back}
+use Rattle.c0_expr_code.specs.Bases.{Bases, types_in, word_of_scalar}
+use Rattle.c0_expr_code.specs.Code.{fields_in, element_words, length_in, AddressingMode, Made, constant_code, or_code, access_code, load_code, operand_code, operand_register, at_place, constant, global_address, local_address, register_made, register_of_variable, local_made, variable_made, displaced, target_address, tested_address, element_address, operator_code, two_code, one_code, logic_code, negative_made, unary_made, Immediate, immediate, immediate_of, operator_made, sum_made, is_never_zero, divisor_code, division_made, binary_made, field_made, made}
+use Rattle.c0_expr_code.specs.Relation.{layout, StateIsTyped, Ready, Area, Evaluates, HoldsValue, HoldsAddress, Source, nought, its, far, ValueRuns, OperandRuns, PlaceRuns, Claims, Right}
+use Rattle.c0_expr_code.proofs.CodeRuns.{Machine, later, stays, code_front, code_back}
 use Rattle.c0_expr_code.proofs.Paths.{leads_from_on, length_fits, typed_there}
 use Rattle.c0_expr_code.proofs.Words.{word_pos}
-use Rattle.c0_expr_code.proofs.Steps.{keeps_low, ready_on, more, paid, node, binds, arrives}
+use Rattle.c0_expr_code.proofs.SideBySide.{keeps_low, ready_on, more, paid, node, binds, arrives}
 use Rattle.c0_expr_code.proofs.AddressingModes.{found, loads, addresses, global_place, local_place}
 use Rattle.c0_expr_code.proofs.Nodes.{constant_gives, nothing_gives, register_operand, register_value, targets, fields, part_leads}
+use Rattle.c0_expr_code.proofs.FramePlaces.{base_of, base_read, same_place, field_based, element_of_based, based, or_left, or_right, both_true}
+use Rattle.c0_expr_code.specs.Reads.{reads, reads_to_find, Covers}
 use Rattle.c0_expr_code.proofs.Elements.{indexes}
 use Rattle.c0_expr_code.proofs.Lengths.{value_length}
 use Rattle.c0_expr_code.proofs.NodeTypes.{type_is, literal_is, small_literal, KnownAs, negative_known, known_is, null_known}
@@ -63,32 +66,33 @@ need_some (unary p o e) = need_some e
 need_some (binary p o a b) = binary_some o (need a) (need b) (need_some a)
 need_some _ = omega arith
 
-module _ (w : World) (sc : Scope) (p : Bases) (s : C0State) (f : Machine w) (area : Area w sc p) (is_typed : StateIsTyped sc p s) where
+module _ (w : World) (sc : Scope) (p : Bases) (live : ℕ → Bool) (s : C0State) (f : Machine w) (area : Area w sc p) (is_typed : StateIsTyped sc p s) where
   -- where only the free register matters
   abbrev AddressRuns : (ℕ → AddressingMode) → ℕ → Bool → Ty → ℕ → Costed Location → Type 0
-  AddressRuns place need local t own e = (r n : ℕ) (c : Contents) (k : Behind) → k.pending ≡ Idle → Ready sc p s c → CodeAt w n (place r).code → 8 ≤ r
+  AddressRuns place need local t own e = (r n : ℕ) (c : Contents) (k : Behind) → k.pending ≡ Idle → Ready sc p live s c → CodeAt w n (place r).code → 8 ≤ r
       → r + need ≤ 20 → Source r (place r).base × Evaluates w sc own n (n + length (place r).code) c k (HoldsAddress sc p (place r).base (place r).displacement r local t c) e
 
   -- a node that is a place, by what its place's code does for its parts
   pub placed : (place : ℕ → AddressingMode) (need : ℕ) (is local : Bool) (t : Ty) (own : ℕ) (e : Costed Location) → 1 ≤ need → own ≤ 13
-      → AddressRuns place need local t own e → Claims w sc p s (at_place place) need is local t (paying 1 (load_from s e)) (paying 1 e)
-  placed place need is local t own e some few runs = record {
+      → (local ≡ true → (u : ℕ) (l : Location) → e ≡ costs u (Ok l) → IsTrue (live (base_of l.path)))
+      → AddressRuns place need local t own e → Claims w sc p live s (at_place place) need is local t (paying 1 (load_from s e)) (paying 1 e)
+  placed place need is local t own e some few lives runs = record {
     value = λ scalar d r n c k idle ready code lo hi nz no1. as_value scalar d r n c k idle ready code lo hi nz;
     operand = λ scalar r n c k idle ready code lo hi. (its, as_value scalar r r n c k idle ready code lo hi (λ z. absurd (omega (arith, z, lo))));
     place = λ q z r n c k idle ready code lo hi. let a = runs r n c k idle ready code lo hi in (a.0, node w sc own n (n + length (place r).code) c k (HoldsAddress sc p (place r).base (place r).displacement r local t c) e (omega arith) a.1);
   }
     where
-      as_value : is_scalar t ≡ true → (d r n : ℕ) (c : Contents) (k : Behind) → k.pending ≡ Idle → Ready sc p s c
+      as_value : is_scalar t ≡ true → (d r n : ℕ) (c : Contents) (k : Behind) → k.pending ≡ Idle → Ready sc p live s c
           → CodeAt w n (load_code d r (place r)) → 8 ≤ r → r + need ≤ 20 → d ≢ 0
           → Evaluates w sc 0 n (n + length (load_code d r (place r))) c k (HoldsValue sc p d r d t c) (paying 1 (load_from s e))
       as_value scalar d r n c k idle ready code lo hi nz =
           let a = runs r n c k idle ready (code_front w n (place r).code _ code) lo hi in
           node w sc (own + 3) n (n + length (load_code d r (place r))) c k (HoldsValue sc p d r d t c) (load_from s e) (omega arith)
-          (loads w sc p s f area is_typed local t (place r) own d r n c k e idle (λ z b h. ready_on sc p s c b h ready) scalar lo (omega arith) nz a.0 code a.1)
+          (loads w sc p live s f area is_typed local t (place r) own d r n c k e idle (λ z b h. ready_on sc p live s c b h ready) scalar lo (omega arith) nz a.0 lives code a.1)
 
   -- a node that is only a value
   pub valued : (m : Made) (need : ℕ) (local : Bool) (t : Ty) (v : Costed Value) (l : Costed Location) → m.stands ≡ None
-      → ValueRuns w sc p s m need t v → Claims w sc p s m need false local t v l
+      → ValueRuns w sc p live s m need t v → Claims w sc p live s m need false local t v l
   valued m need local t v l none h = record {
     value = λ scalar. h;
     operand = λ scalar r n c k idle ready code lo hi.
@@ -104,57 +108,79 @@ module _ (w : World) (sc : Scope) (p : Bases) (s : C0State) (f : Machine w) (are
   dearer u d q r n to t x c k some h = (h.0, h.1, later w (0 + 16 * (1 + 0)) (0 + 16 * u) _ _ (omega arith) h.2)
 
   constants_by : (b : Bool) (v u need : ℕ) (x : Value) (t : Ty) (literal : Option ℕ) (local : Bool) (l : Costed Location) → v < 2 ^ 32 → 1 ≤ u
-      → nat_eq v 0 ≡ b → v ≡ word sc p x → Fits sc.env.structs (layout sc p) t x
-      → OperandRuns w sc p s (record (constant v literal) { stands = cond b (Some 0) None }) need t (costs u (Ok x))
-  constants_by true v u need x t literal local l small some z e fits r n c k idle ready code lo hi = (nought, dearer u r 0 r n (n + 0) t x c k some (nothing_gives w sc p s f area is_typed r n t x c k (sym (eqb-true v 0 z) ∙ e) fits))
-  constants_by false v u need x t literal local l small some z e fits r n c k idle ready code lo hi = (its, dearer u r r r n _ t x c k some (constant_gives w sc p s f area is_typed r r n v t x c k small idle (λ z. absurd (omega (arith, z, lo))) code e fits))
+      → nat_eq v 0 ≡ b → v ≡ word_of_scalar sc p x → Fits sc.env.structs (layout sc p) t x
+      → OperandRuns w sc p live s (record (constant v literal) { stands = cond b (Some 0) None }) need t (costs u (Ok x))
+  constants_by true v u need x t literal local l small some z e fits r n c k idle ready code lo hi = (nought, dearer u r 0 r n (n + 0) t x c k some (nothing_gives w sc p live s f area is_typed r n t x c k (sym (eqb-true v 0 z) ∙ e) fits))
+  constants_by false v u need x t literal local l small some z e fits r n c k idle ready code lo hi = (its, dearer u r r r n _ t x c k some (constant_gives w sc p live s f area is_typed r r n v t x c k small idle (λ z. absurd (omega (arith, z, lo))) code e fits))
 
   pub constants : (v u need : ℕ) (x : Value) (t : Ty) (literal : Option ℕ) (local : Bool) (l : Costed Location) → v < 2 ^ 32 → 1 ≤ u
-      → v ≡ word sc p x → Fits sc.env.structs (layout sc p) t x → Claims w sc p s (constant v literal) need false local t (costs u (Ok x)) l
+      → v ≡ word_of_scalar sc p x → Fits sc.env.structs (layout sc p) t x → Claims w sc p live s (constant v literal) need false local t (costs u (Ok x)) l
   constants v u need x t literal local l small some e fits = record {
-    value = λ scalar d r n c k idle ready code lo hi nz no1. dearer u d d r n _ t x c k some (constant_gives w sc p s f area is_typed d r n v t x c k small idle nz code e fits);
+    value = λ scalar d r n c k idle ready code lo hi nz no1. dearer u d d r n _ t x c k some (constant_gives w sc p live s f area is_typed d r n v t x c k small idle nz code e fits);
     operand = λ scalar. constants_by (nat_eq v 0) v u need x t literal local l small some refl e fits;
     place = λ q. absurd (cc);
   }
 
   -- `null` is given where any pointer is asked
-  pub null_right_is : (span : Span) (t : Ty) → Right w sc p s (null span) (ty.pointer t)
+  pub null_right_is : (span : Span) (t : Ty) → Right w sc p live s (null span) (ty.pointer t)
   null_right_is span t = constants 0 1 1 value.null (ty.pointer t) None false (place_of (null span) s) (omega arith) (omega arith) refl tt
 
   -- variables
   global_variables : (x : ℕ) (t : Ty) → slice_get (types_of sc.env.globals) x ≡ Some t
-      → Claims w sc p s (variable_made sc Global x) 1 true false t (paying 1 (load_from s (at_no_cost (variable_location Global x)))) (paying 1 (at_no_cost (variable_location Global x)))
-  global_variables x t h = placed (λ r. global_address sc x) 1 true false t 0 (at_no_cost (variable_location Global x)) (omega arith) (omega arith) (λ r n c k idle ready code lo hi. (far (omega arith), global_place w sc p s f area is_typed x n r t c k ready h))
+      → Claims w sc p live s (variable_made sc Global x) 1 true false t (paying 1 (load_from s (at_no_cost (variable_location Global x)))) (paying 1 (at_no_cost (variable_location Global x)))
+  global_variables x t h = placed (λ r. global_address sc x) 1 true false t 0 (at_no_cost (variable_location Global x)) (omega arith) (omega arith) (λ q. absurd (cc)) (λ r n c k idle ready code lo hi. (far (omega arith), global_place w sc p live s f area is_typed x n r t c k ready h))
 
-  local_variables : (x : ℕ) (t : Ty) → slice_get (types_of sc.env.locals) x ≡ Some t → (b : Bool) → sc.in_registers ≡ b
-      → Claims w sc p s (cond b (register_made (register_of x)) (at_place (λ r. local_address sc x))) 1 true true t (paying 1 (load_from s (at_no_cost (variable_location Local x)))) (paying 1 (at_no_cost (variable_location Local x)))
-  local_variables x t h false form = placed (λ r. local_address sc x) 1 true true t 0 (at_no_cost (variable_location Local x)) (omega arith) (omega arith) (λ r n c k idle ready code lo hi. (far (omega arith), local_place w sc p s f area is_typed x n r t c k ready form h))
-  local_variables x t h true form =
+  local_variables : (x : ℕ) (t : Ty) → slice_get (types_of sc.env.locals) x ≡ Some t → IsTrue (live x) → (b : Bool) → sc.in_registers ≡ b
+      → Claims w sc p live s (cond b (register_made (register_of_variable x)) (at_place (λ r. local_address sc x))) 1 true true t (paying 1 (load_from s (at_no_cost (variable_location Local x)))) (paying 1 (at_no_cost (variable_location Local x)))
+  local_variables x t h is_live false form = placed (λ r. local_address sc x) 1 true true t 0 (at_no_cost (variable_location Local x)) (omega arith) (omega arith)
+      (λ q u l e. subst (λ z. IsTrue (live (base_of z.path))) (same_place 0 u (record { region = locals; path = x ∷ [] }) l e) is_live) (λ r n c k idle ready code lo hi. (far (omega arith), local_place w sc p live s f area is_typed x n r t c k ready form h))
+  local_variables x t h is_live true form =
       let low = (area.scalars form x t h).1 in
-      let e : 20 + x ≡ register_of x = omega (arith, low) in
-      subst (λ q. Claims w sc p s (register_made q) 1 true true t (paying 1 (load_from s (at_no_cost (variable_location Local x)))) (paying 1 (at_no_cost (variable_location Local x)))) e (record {
-        value = λ scalar d r n c k idle ready code lo hi nz no1. register_value w sc p s f area is_typed form x d r n t c k idle nz ready h code;
-        operand = λ scalar r n c k idle ready code lo hi. (far (omega arith), register_operand w sc p s f area is_typed form x r n t c k ready h);
+      let e : 20 + x ≡ register_of_variable x = omega (arith, low) in
+      subst (λ q. Claims w sc p live s (register_made q) 1 true true t (paying 1 (load_from s (at_no_cost (variable_location Local x)))) (paying 1 (at_no_cost (variable_location Local x)))) e (record {
+        value = λ scalar d r n c k idle ready code lo hi nz no1. register_value w sc p live s f area is_typed form x d r n t c k idle nz ready h is_live code;
+        operand = λ scalar r n c k idle ready code lo hi. (far (omega arith), register_operand w sc p live s f area is_typed form x r n t c k ready h is_live);
         place = λ q none. absurd (cc);
       })
 
-  variables : (k : Kind) (n : ℕ) (d : Typed) → variable_at sc.env k n ≡ Some d
-      → Claims w sc p s (variable_made sc k n) 1 true (is_in_frame k) d.ty (paying 1 (load_from s (at_no_cost (variable_location k n)))) (paying 1 (at_no_cost (variable_location k n)))
-  variables Global n d h = global_variables n d.ty (typed_there sc.env.globals n d h)
-  variables Local n d h = local_variables n d.ty (typed_there sc.env.locals n d h) sc.in_registers refl
-  variables Unresolved n d h = absurd (cc)
-  variables Struct n d h = absurd (cc)
-  variables Field n d h = absurd (cc)
-  variables Function n d h = absurd (cc)
-  variables Primitive n d h = absurd (cc)
+  variables : (k : Kind) (n : ℕ) (d : Typed) → variable_at sc.env k n ≡ Some d → (is_in_frame k ≡ true → IsTrue (live n))
+      → Claims w sc p live s (variable_made sc k n) 1 true (is_in_frame k) d.ty (paying 1 (load_from s (at_no_cost (variable_location k n)))) (paying 1 (at_no_cost (variable_location k n)))
+  variables Global n d h is_live = global_variables n d.ty (typed_there sc.env.globals n d h)
+  variables Local n d h is_live = local_variables n d.ty (typed_there sc.env.locals n d h) (is_live refl) sc.in_registers refl
+  variables Unresolved n d h is_live = absurd (cc)
+  variables Struct n d h is_live = absurd (cc)
+  variables Field n d h is_live = absurd (cc)
+  variables Function n d h is_live = absurd (cc)
+  variables Primitive n d h is_live = absurd (cc)
+
+  -- a variable's place, which is found whether it is live or not
+  local_found : (x : ℕ) (t : Ty) → slice_get (types_of sc.env.locals) x ≡ Some t → (b : Bool) → sc.in_registers ≡ b
+      → (cond b (register_made (register_of_variable x)) (at_place (λ r. local_address sc x))).stands ≡ None
+      → PlaceRuns w sc p live s (cond b (register_made (register_of_variable x)) (at_place (λ r. local_address sc x))) 1 true t (paying 1 (at_no_cost (variable_location Local x)))
+  local_found x t h false form none = λ r n c k idle ready code lo hi. (
+    far (omega arith),
+    node w sc 0 n (n + length (local_address sc x).code) c k (HoldsAddress sc p (local_address sc x).base (local_address sc x).displacement r true t c) (at_no_cost (variable_location Local x)) (omega arith)
+        (local_place w sc p live s f area is_typed x n r t c k ready form h),
+  )
+  local_found x t h true form none = absurd (cc)
+
+  variable_found : (k : Kind) (n : ℕ) (d : Typed) → variable_at sc.env k n ≡ Some d → (variable_made sc k n).stands ≡ None
+      → PlaceRuns w sc p live s (variable_made sc k n) 1 (is_in_frame k) d.ty (paying 1 (at_no_cost (variable_location k n)))
+  variable_found Global n d h none = (global_variables n d.ty (typed_there sc.env.globals n d h)).place refl none
+  variable_found Local n d h none = local_found n d.ty (typed_there sc.env.locals n d h) sc.in_registers refl none
+  variable_found Unresolved n d h none = absurd (cc)
+  variable_found Struct n d h none = absurd (cc)
+  variable_found Field n d h none = absurd (cc)
+  variable_found Function n d h none = absurd (cc)
+  variable_found Primitive n d h none = absurd (cc)
 
   -- targets of pointers
-  target_runs : (m : Made) (need : ℕ) (t : Ty) (e : Costed Value) → OperandRuns w sc p s m need (ty.pointer t) e → 1 ≤ need
+  target_runs : (m : Made) (need : ℕ) (t : Ty) (e : Costed Value) → OperandRuns w sc p live s m need (ty.pointer t) e → 1 ≤ need
       → AddressRuns (λ r. target_address sc m r) need false t 2 (pointed e)
   target_runs m need t e o some r n c k idle ready code lo hi =
       let a = o r n c k idle ready (code_front w n (operand_code m r) _ code) lo hi in
       let tail = code_back w n (operand_code m r) _ code in
-      let run = targets w sc p s f area is_typed t (operand_register m r) r n (n + length (operand_code m r)) c k e idle (omega arith) tail a.1 in
+      let run = targets w sc p live s f area is_typed t (operand_register m r) r n (n + length (operand_code m r)) c k e idle (omega arith) tail a.1 in
       let len : n + length (operand_code m r) + 2 ≡ n + length (target_address sc m r).code = omega (arith, length-append (operand_code m r) (Bne (operand_register m r) 0 1 ∷ J (sc.exit NullUse) ∷ [])) in
       (a.0, subst (λ to. Evaluates w sc 2 n to c k (HoldsAddress sc p (operand_register m r) 0 r false t c) (pointed e)) len run)
 
@@ -165,7 +191,7 @@ module _ (w : World) (sc : Scope) (p : Bases) (s : C0State) (f : Machine w) (are
       AddressRuns (λ r. displaced (4 * words_before sc.env.structs (fields_in sc.env.structs u) g.number) (place r)) need local t own (field_of g e)
   field_runs place need own local x g t u e some q h runs r n c k idle ready code lo hi =
       let a = runs r n c k idle ready code lo hi in
-      let b = fields w sc p s f area is_typed x g (place r).base own r n (n + length (place r).code) (place r).displacement local t c k e (omega arith) ready h a.1 in
+      let b = fields w sc p live s f area is_typed x g (place r).base own r n (n + length (place r).code) (place r).displacement local t c k e (omega arith) ready h a.1 in
       (a.0, subst (λ v. Evaluates w sc own n (n + length (place r).code) c k (HoldsAddress sc p (place r).base (((place r).displacement + 4 * words_before sc.env.structs (fields_in sc.env.structs v) g.number) % 2 ^ 32) r local t c) (field_of g e)) (sym q) b)
 
   -- elements
@@ -181,40 +207,40 @@ module _ (w : World) (sc : Scope) (p : Bases) (s : C0State) (f : Machine w) (are
             (binds w sc 0 10 n (n + length (place r).code) (n + length (place r).code) c k (HoldsAddress sc p (place r).base (place r).displacement r local (ty.array t len) c) (HoldsAddress sc p (place r).base (((place r).displacement + 4 * (j * words sc.env.structs t)) % 2 ^ 32) r local t c) e _ a.1
             (λ l b g. keeps_low r r c b (omega arith) g.keeps)
             (λ l b g.
-            let ready_b = ready_on sc p s c b (keeps_low r r c b (omega arith) g.keeps) ready in
-            let there = found w sc p s f area is_typed b l (ty.array t len) ready_b g.leads g.standing in
+            let ready_b = ready_on sc p live s c b (keeps_low r r c b (omega arith) g.keeps) ready in
+            let there = found w sc p live s f area is_typed b l (ty.array t len) ready_b g.leads g.standing in
             paid w sc 1 10 (n + length (place r).code) (n + length (place r).code) b k (HoldsAddress sc p (place r).base (((place r).displacement + 4 * (j * words sc.env.structs t)) % 2 ^ 32) r local t c) (at_no_cost (element_of l (read s l) (int (pos j))))
             (more w sc 0 (10 + 16 * 1) _ _ b k (HoldsAddress sc p (place r).base (((place r).displacement + 4 * (j * words sc.env.structs t)) % 2 ^ 32) r local t c) (at_no_cost (element_of l (read s l) (int (pos j)))) (omega arith)
             (subst (λ y. Evaluates w sc 0 (n + length (place r).code) (n + length (place r).code) b k (HoldsAddress sc p (place r).base (((place r).displacement + 4 * (j * words sc.env.structs t)) % 2 ^ 32) r local t c) (at_no_cost (element_of l y (int (pos j))))) (sym there.seen.is)
             (by_value l b g ready_b there.seen.value there.seen.fits))))),
       )
     where
-      by_value : (l : Location) (b : Contents) → HoldsAddress sc p (place r).base (place r).displacement r local (ty.array t len) c l b → Ready sc p s b
+      by_value : (l : Location) (b : Contents) → HoldsAddress sc p (place r).base (place r).displacement r local (ty.array t len) c l b → Ready sc p live s b
           → (y : Value) → Fits sc.env.structs (layout sc p) (ty.array t len) y
           → Evaluates w sc 0 (n + length (place r).code) (n + length (place r).code) b k (HoldsAddress sc p (place r).base (((place r).displacement + 4 * (j * words sc.env.structs t)) % 2 ^ 32) r local t c) (at_no_cost (element_of l (Some y) (int (pos j))))
       by_value l b g ready_b (group vs) h =
           let path : PathLeads sc.env.structs (ty.array t len) (j ∷ []) t = (ltb-true j len less, refl) in
           let leads = leads_from_on sc.env.structs (types_in sc p l.region) l.path (ty.array t len) j t g.leads path in
-          let there = found w sc p s f area is_typed b (value.below l j) t ready_b leads g.standing in
+          let there = found w sc p live s f area is_typed b (value.below l j) t ready_b leads g.standing in
           let size : value.count vs ≡ len = length_fits sc.env.structs (layout sc p) len t vs h in
           let yes : nat_lt j (value.count vs) ≡ true = ap (nat_lt j) size ∙ less in
           subst (λ o. Evaluates w sc 0 (n + length (place r).code) (n + length (place r).code) b k (HoldsAddress sc p (place r).base (((place r).displacement + 4 * (j * words sc.env.structs t)) % 2 ^ 32) r local t c) (at_no_cost o)) (sym (cond-true (nat_lt j (value.count vs)) (Ok (value.below l j)) (Err (faulted Bounds)) yes))
           (arrives w sc 0 _ _ b b k (HoldsAddress sc p (place r).base (((place r).displacement + 4 * (j * words sc.env.structs t)) % 2 ^ 32) r local t c) (value.below l j)
-          (part_leads w sc p s f area is_typed (place r).base (place r).displacement (j * words sc.env.structs t) r j local (ty.array t len) t c b l path (let z : j * words sc.env.structs t + 0 ≡ j * words sc.env.structs t = omega arith in z) there.inside g) (stays w _ _ refl))
+          (part_leads w sc p live s f area is_typed (place r).base (place r).displacement (j * words sc.env.structs t) r j local (ty.array t len) t c b l path (let z : j * words sc.env.structs t + 0 ≡ j * words sc.env.structs t = omega arith in z) there.inside g) (stays w _ _ refl))
       by_value l b g ready_b (int z) h = absurd h
       by_value l b g ready_b (bool z) h = absurd h
       by_value l b g ready_b value.null h = absurd h
       by_value l b g ready_b (at z) h = absurd h
 
   tested_runs : (place : ℕ → AddressingMode) (m : Made) (na nb : ℕ) (local : Bool) (len : ℕ) (t : Ty) (e : Costed Location) (i : Costed Value) → 1 ≤ na
-      → 1 ≤ nb → AddressRuns place na local (ty.array t len) 0 e → OperandRuns w sc p s m nb ty.int i →
+      → 1 ≤ nb → AddressRuns place na local (ty.array t len) 0 e → OperandRuns w sc p live s m nb ty.int i →
       AddressRuns (λ r. tested_address sc (words sc.env.structs t) len (place r) m r) (max na (nb + 1)) local t 10 (indexed s e i)
   tested_runs place m na nb local len t e i some more_than runs o r n c k idle ready code lo hi =
       let a = runs r n c k idle ready (code_front w n (place r).code _ code) lo (omega arith) in
-      (its, indexes w sc p s f area is_typed len t local (place r) m r n c k e i idle lo (omega arith) ready a.0 code a.1 (λ b ready_b there. o (r + 1) (n + length (place r).code) b k idle ready_b there (omega arith) (omega arith)))
+      (its, indexes w sc p live s f area is_typed len t local (place r) m r n c k e i idle lo (omega arith) ready a.0 code a.1 (λ b ready_b there. o (r + 1) (n + length (place r).code) b k idle ready_b there (omega arith) (omega arith)))
 
   element_runs : (place : ℕ → AddressingMode) (m : Made) (na nb : ℕ) (local : Bool) (len : ℕ) (t : Ty) (e : Costed Location) (i : Costed Value) → 1 ≤ na
-      → 1 ≤ nb → AddressRuns place na local (ty.array t len) 0 e → OperandRuns w sc p s m nb ty.int i → (o : Option ℕ)
+      → 1 ≤ nb → AddressRuns place na local (ty.array t len) 0 e → OperandRuns w sc p live s m nb ty.int i → (o : Option ℕ)
       → ((j : ℕ) → o ≡ Some j → (i ≡ costs 1 (Ok (int (pos j)))) × FitsSigned w32 (pos j)) →
       AddressRuns (λ r. element_address sc (words sc.env.structs t) len o (place r) m r) (max na (nb + 1)) local t 10 (indexed s e i)
   element_runs place m na nb local len t e i some more_than runs o None known = tested_runs place m na nb local len t e i some more_than runs o
@@ -227,7 +253,7 @@ module _ (w : World) (sc : Scope) (p : Bases) (s : C0State) (f : Machine w) (are
 
   -- what doesn't stand in a register: all that isn't scalar, and what isn't local
   in_memory : (b : Bool) (x : ℕ) (t : Ty) → sc.in_registers ≡ b → slice_get (types_of sc.env.locals) x ≡ Some t → is_scalar t ≡ false
-      → (cond b (register_made (register_of x)) (at_place (λ r. local_address sc x))).stands ≡ None
+      → (cond b (register_made (register_of_variable x)) (at_place (λ r. local_address sc x))).stands ≡ None
   in_memory false x t form h e = refl
   in_memory true x t form h e = let q : false ≡ true = sym e ∙ (area.scalars form x t h).0 in absurd (cc)
 
@@ -294,7 +320,7 @@ module _ (w : World) (sc : Scope) (p : Bases) (s : C0State) (f : Machine w) (are
     units : ℕ
     value : Value
     is : y ≡ costs units (Ok value)
-    runs : (d r : ℕ) → d ≢ 0 → With w sc p s f area is_typed g d r t z (λ x. on x value)
+    runs : (d r : ℕ) → d ≢ 0 → With w sc p live s f area is_typed g d r t z (λ x. on x value)
 
   known_some : (o : BinaryOp) (m : Option ℕ) (g : ℕ → ℕ → List Inst) → immediate_of o m ≡ Some g → (k : ℕ) × (m ≡ Some k) × (immediate o k ≡ Some g)
   known_some o None g e = absurd (cc)
@@ -303,14 +329,14 @@ module _ (w : World) (sc : Scope) (p : Bases) (s : C0State) (f : Machine w) (are
   -- with an int
   knows_int : (o : BinaryOp) (z : Ty) (m : Option ℕ) (y : Costed Value) (on : Value → Value → Result Value Failure)
       → ((k : ℕ) → m ≡ Some k → KnownAs sc p ty.int k y)
-      → ((d r : ℕ) (v : ℤ) → d ≢ 0 → FitsSigned w32 v → (g : ℕ → ℕ → List Inst) → immediate o (word_of v) ≡ Some g → With w sc p s f area is_typed g d r ty.int z (λ x. on x (int v)))
+      → ((d r : ℕ) (v : ℤ) → d ≢ 0 → FitsSigned w32 v → (g : ℕ → ℕ → List Inst) → immediate o (word_of v) ≡ Some g → With w sc p live s f area is_typed g d r ty.int z (λ x. on x (int v)))
       → (g : ℕ → ℕ → List Inst) → immediate_of o m ≡ Some g → Knows g ty.int z y on
   knows_int o z m y on known law g e =
       let h = known_some o m g e in
       let a = known h.0 h.1 in
       by_value a.value a.units a.is a.fits h.0 a.word_is h.2
     where
-      by_value : (v : Value) (u : ℕ) → y ≡ costs u (Ok v) → Fits sc.env.structs (layout sc p) ty.int v → (k : ℕ) → word sc p v ≡ k
+      by_value : (v : Value) (u : ℕ) → y ≡ costs u (Ok v) → Fits sc.env.structs (layout sc p) ty.int v → (k : ℕ) → word_of_scalar sc p v ≡ k
           → immediate o k ≡ Some g → Knows g ty.int z y on
       by_value (int v) u is fits k word_is e = record { units = u; value = int v; is = is; runs = λ d r nz. law d r v nz fits g (ap (immediate o) word_is ∙ e) }
       by_value (bool v) u is fits k word_is e = absurd fits
@@ -321,7 +347,7 @@ module _ (w : World) (sc : Scope) (p : Bases) (s : C0State) (f : Machine w) (are
   -- with any scalar
   knows_scalar : (o : BinaryOp) (t : Ty) (m : Option ℕ) (y : Costed Value) (on : Value → Value → Result Value Failure)
       → ((k : ℕ) → m ≡ Some k → KnownAs sc p t k y)
-      → ((d r : ℕ) (v : Value) → d ≢ 0 → Fits sc.env.structs (layout sc p) t v → (g : ℕ → ℕ → List Inst) → immediate o (word sc p v) ≡ Some g → With w sc p s f area is_typed g d r t ty.bool (λ x. on x v))
+      → ((d r : ℕ) (v : Value) → d ≢ 0 → Fits sc.env.structs (layout sc p) t v → (g : ℕ → ℕ → List Inst) → immediate o (word_of_scalar sc p v) ≡ Some g → With w sc p live s f area is_typed g d r t ty.bool (λ x. on x v))
       → (g : ℕ → ℕ → List Inst) → immediate_of o m ≡ Some g → Knows g t ty.bool y on
   knows_scalar o t m y on known law g e =
       let h = known_some o m g e in
@@ -330,158 +356,170 @@ module _ (w : World) (sc : Scope) (p : Bases) (s : C0State) (f : Machine w) (are
 
   -- an operator on two values, the right of which may be a constant
   operators_right : (im : Immediate) (o : BinaryOp) (t z : Ty) (a b : Made) (na nb : ℕ) (local : Bool) (x y : Costed Value) (l : Costed Location)
-      → is_scalar t ≡ true → 1 ≤ na → 1 ≤ nb → OperandRuns w sc p s a na t x → OperandRuns w sc p s b nb t y
-      → ((d r : ℕ) → d ≢ 0 → Finishes w sc p s f area is_typed (λ q g. operator_code o d q g) d r t t z (on_binary o))
+      → is_scalar t ≡ true → 1 ≤ na → 1 ≤ nb → OperandRuns w sc p live s a na t x → OperandRuns w sc p live s b nb t y
+      → ((d r : ℕ) → d ≢ 0 → Finishes w sc p live s f area is_typed (λ q g. operator_code o d q g) d r t t z (on_binary o))
       → ((g : ℕ → ℕ → List Inst) → im ≡ Some g → Knows g t z y (on_binary o))
-      → Claims w sc p s (operator_made im o a b) (max na (nb + 1)) false local z (paying 1 (x >>= λ v. y >>= λ u. at_no_cost (on_binary o v u))) l
+      → Claims w sc p live s (operator_made im o a b) (max na (nb + 1)) false local z (paying 1 (x >>= λ v. y >>= λ u. at_no_cost (on_binary o v u))) l
   operators_right (Some g) o t z a b na nb local x y l scalar ha hb oa ob finish knows = valued (operator_made (Some g) o a b) (max na (nb + 1)) local z _ l refl (λ d r n c k idle ready code lo hi nz no1.
       let v = knows g refl in
       known_right v.units n _ c k (HoldsValue sc p d r d z c) x y v.value (on_binary o) v.is
-      (ones w sc p s f area is_typed (λ q. g d q) a na (λ e. on_binary o e v.value) t z d r n c k x idle lo (omega arith) ha ready code oa (v.runs d r nz)))
+      (ones w sc p live s f area is_typed (λ q. g d q) a na (λ e. on_binary o e v.value) t z d r n c k x idle lo (omega arith) ha ready code oa (v.runs d r nz)))
   operators_right None o t z a b na nb local x y l scalar ha hb oa ob finish knows = valued (operator_made None o a b) (max na (nb + 1)) local z _ l refl (λ d r n c k idle ready code lo hi nz no1.
-      twos w sc p s f area is_typed (λ v. Unit {0}) (λ q t. operator_code o d q t) a b na nb (on_binary o) t t z d r n c k x y idle lo (omega arith) (omega arith) hb ready code oa ob (any_answer y) (finish d r nz))
+      twos w sc p live s f area is_typed (λ v. Unit {0}) (λ q t. operator_code o d q t) a b na nb (on_binary o) t t z d r n c k x y idle lo (omega arith) (omega arith) hb ready code oa ob (any_answer y) (finish d r nz))
 
   sums_right : (i j : Immediate) (a b : Made) (na nb : ℕ) (local : Bool) (x y : Costed Value) (l : Costed Location) → 1 ≤ na → 1 ≤ nb
-      → OperandRuns w sc p s a na ty.int x → OperandRuns w sc p s b nb ty.int y
+      → OperandRuns w sc p live s a na ty.int x → OperandRuns w sc p live s b nb ty.int y
       → ((g : ℕ → ℕ → List Inst) → i ≡ Some g → Knows g ty.int ty.int y (on_binary Add))
       → ((g : ℕ → ℕ → List Inst) → j ≡ Some g → Knows g ty.int ty.int x (λ v u. on_binary Add u v))
-      → Claims w sc p s (sum_made i j a b) (max na (nb + 1)) false local ty.int (paying 1 (x >>= λ v. y >>= λ u. at_no_cost (on_binary Add v u))) l
+      → Claims w sc p live s (sum_made i j a b) (max na (nb + 1)) false local ty.int (paying 1 (x >>= λ v. y >>= λ u. at_no_cost (on_binary Add v u))) l
   sums_right (Some g) j a b na nb local x y l ha hb oa ob right left = valued (sum_made (Some g) j a b) (max na (nb + 1)) local ty.int _ l refl (λ d r n c k idle ready code lo hi nz no1.
       let v = right g refl in
       known_right v.units n _ c k (HoldsValue sc p d r d ty.int c) x y v.value (on_binary Add) v.is
-      (ones w sc p s f area is_typed (λ q. g d q) a na (λ e. on_binary Add e v.value) ty.int ty.int d r n c k x idle lo (omega arith) ha ready code oa (v.runs d r nz)))
+      (ones w sc p live s f area is_typed (λ q. g d q) a na (λ e. on_binary Add e v.value) ty.int ty.int d r n c k x idle lo (omega arith) ha ready code oa (v.runs d r nz)))
   sums_right None (Some g) a b na nb local x y l ha hb oa ob right left = valued (sum_made None (Some g) a b) (max na (nb + 1)) local ty.int _ l refl (λ d r n c k idle ready code lo hi nz no1.
       let v = left g refl in
       known_left v.units n _ c k (HoldsValue sc p d r d ty.int c) x y v.value (on_binary Add) v.is
-      (ones w sc p s f area is_typed (λ q. g d q) b nb (λ e. on_binary Add v.value e) ty.int ty.int d r n c k y idle lo (omega arith) hb ready code ob (v.runs d r nz)))
+      (ones w sc p live s f area is_typed (λ q. g d q) b nb (λ e. on_binary Add v.value e) ty.int ty.int d r n c k y idle lo (omega arith) hb ready code ob (v.runs d r nz)))
   sums_right None None a b na nb local x y l ha hb oa ob right left = valued (sum_made None None a b) (max na (nb + 1)) local ty.int _ l refl (λ d r n c k idle ready code lo hi nz no1.
-      twos w sc p s f area is_typed (λ v. Unit {0}) (λ q t. operator_code Add d q t) a b na nb (on_binary Add) ty.int ty.int ty.int d r n c k x y idle lo (omega arith) (omega arith) hb ready code oa ob (any_answer y) (sums w sc p s f area is_typed Add d r nz ring.add))
+      twos w sc p live s f area is_typed (λ v. Unit {0}) (λ q t. operator_code Add d q t) a b na nb (on_binary Add) ty.int ty.int ty.int d r n c k x y idle lo (omega arith) (omega arith) hb ready code oa ob (any_answer y) (sums w sc p live s f area is_typed Add d r nz ring.add))
 
   -- a divisor that is sure isn't 0
-  sure_number : (o : Option ℕ) → is_sure o ≡ true → (k : ℕ) × (o ≡ Some (suc k))
+  sure_number : (o : Option ℕ) → is_never_zero o ≡ true → (k : ℕ) × (o ≡ Some (suc k))
   sure_number (Some (suc k)) e = (k, refl)
   sure_number (Some zero) e = absurd (cc)
   sure_number None e = absurd (cc)
 
-  sure_answers : (m : Option ℕ) (y : Costed Value) → ((k : ℕ) → m ≡ Some k → KnownAs sc p ty.int k y) → (sure : Bool) → is_sure m ≡ sure
-      → Answers (λ v. sure ≡ true → word sc p v ≢ 0) y
+  sure_answers : (m : Option ℕ) (y : Costed Value) → ((k : ℕ) → m ≡ Some k → KnownAs sc p ty.int k y) → (sure : Bool) → is_never_zero m ≡ sure
+      → Answers (λ v. sure ≡ true → word_of_scalar sc p v ≢ 0) y
   sure_answers m y known true e =
       let h = sure_number m e in
       let a = known (suc h.0) h.1 in
-      let ne : word sc p a.value ≢ 0 = λ z. let q = a.word_is in absurd (omega (arith, z, q)) in
-      subst (λ y. Answers (λ v. true ≡ true → word sc p v ≢ 0) y) (sym a.is) (λ z. ne)
+      let ne : word_of_scalar sc p a.value ≢ 0 = λ z. let q = a.word_is in absurd (omega (arith, z, q)) in
+      subst (λ y. Answers (λ v. true ≡ true → word_of_scalar sc p v ≢ 0) y) (sym a.is) (λ z. ne)
   sure_answers m (costs u (Ok v)) known false e = λ z. absurd (cc)
   sure_answers m (costs u (Err v)) known false e = tt
 
   arithmetic_right : (o : BinaryOp) → IsArithmetic o → (a b : Made) (na nb : ℕ) (local : Bool) (x y : Costed Value) (l : Costed Location) → 1 ≤ na
-      → 1 ≤ nb → OperandRuns w sc p s a na ty.int x → OperandRuns w sc p s b nb ty.int y
+      → 1 ≤ nb → OperandRuns w sc p live s a na ty.int x → OperandRuns w sc p live s b nb ty.int y
       → ((k : ℕ) → a.known ≡ Some k → KnownAs sc p ty.int k x) → ((k : ℕ) → b.known ≡ Some k → KnownAs sc p ty.int k y)
-      → Claims w sc p s (binary_made sc o a b) (binary_need o na nb) false local ty.int (paying 1 (both o x y)) l
+      → Claims w sc p live s (binary_made sc o a b) (binary_need o na nb) false local ty.int (paying 1 (both o x y)) l
   arithmetic_right _ add a b na nb local x y l ha hb oa ob ka kb = sums_right (immediate_of Add b.known) (immediate_of Add a.known) a b na nb local x y l ha hb oa ob
-      (knows_int Add ty.int b.known y (on_binary Add) kb (λ d r v nz fv g e. adds_with w sc p s f area is_typed d r v nz fv g e)) (knows_int Add ty.int a.known x (λ v u. on_binary Add u v) ka (λ d r v nz fv g e. adds_left w sc p s f area is_typed d r v nz fv g e))
-  arithmetic_right _ sub a b na nb local x y l ha hb oa ob ka kb = operators_right (immediate_of Sub b.known) Sub ty.int ty.int a b na nb local x y l refl ha hb oa ob (λ d r nz. sums w sc p s f area is_typed Sub d r nz ring.sub)
-      (knows_int Sub ty.int b.known y (on_binary Sub) kb (λ d r v nz fv g e. subtracts_with w sc p s f area is_typed d r v nz fv g e))
-  arithmetic_right _ mul a b na nb local x y l ha hb oa ob ka kb = operators_right None Mul ty.int ty.int a b na nb local x y l refl ha hb oa ob (λ d r nz. sums w sc p s f area is_typed Mul d r nz ring.mul) (λ g e. absurd (cc))
+      (knows_int Add ty.int b.known y (on_binary Add) kb (λ d r v nz fv g e. adds_with w sc p live s f area is_typed d r v nz fv g e)) (knows_int Add ty.int a.known x (λ v u. on_binary Add u v) ka (λ d r v nz fv g e. adds_left w sc p live s f area is_typed d r v nz fv g e))
+  arithmetic_right _ sub a b na nb local x y l ha hb oa ob ka kb = operators_right (immediate_of Sub b.known) Sub ty.int ty.int a b na nb local x y l refl ha hb oa ob (λ d r nz. sums w sc p live s f area is_typed Sub d r nz ring.sub)
+      (knows_int Sub ty.int b.known y (on_binary Sub) kb (λ d r v nz fv g e. subtracts_with w sc p live s f area is_typed d r v nz fv g e))
+  arithmetic_right _ mul a b na nb local x y l ha hb oa ob ka kb = operators_right None Mul ty.int ty.int a b na nb local x y l refl ha hb oa ob (λ d r nz. sums w sc p live s f area is_typed Mul d r nz ring.mul) (λ g e. absurd (cc))
   arithmetic_right _ div a b na nb local x y l ha hb oa ob ka kb = valued (binary_made sc Div a b) (max na (nb + 1)) local ty.int _ l refl (λ d r n c k idle ready code lo hi nz no1.
-      twos w sc p s f area is_typed (λ v. is_sure b.known ≡ true → word sc p v ≢ 0) (λ q t. divisor_code sc (is_sure b.known) t ++ (Divide q t ∷ Mflo d ∷ [])) a b na nb (on_binary Div) ty.int ty.int ty.int d r n c k x y idle lo (omega arith) (omega arith) hb ready code oa ob
-      (sure_answers b.known y kb (is_sure b.known) refl) (quotients w sc p s f area is_typed d r nz (is_sure b.known)))
+      twos w sc p live s f area is_typed (λ v. is_never_zero b.known ≡ true → word_of_scalar sc p v ≢ 0) (λ q t. divisor_code sc (is_never_zero b.known) t ++ (Divide q t ∷ Mflo d ∷ [])) a b na nb (on_binary Div) ty.int ty.int ty.int d r n c k x y idle lo (omega arith) (omega arith) hb ready code oa ob
+      (sure_answers b.known y kb (is_never_zero b.known) refl) (quotients w sc p live s f area is_typed d r nz (is_never_zero b.known)))
   arithmetic_right _ rem a b na nb local x y l ha hb oa ob ka kb = valued (binary_made sc Rem a b) (max na (nb + 1)) local ty.int _ l refl (λ d r n c k idle ready code lo hi nz no1.
-      twos w sc p s f area is_typed (λ v. is_sure b.known ≡ true → word sc p v ≢ 0) (λ q t. divisor_code sc (is_sure b.known) t ++ (Divide q t ∷ Mfhi d ∷ [])) a b na nb (on_binary Rem) ty.int ty.int ty.int d r n c k x y idle lo (omega arith) (omega arith) hb ready code oa ob
-      (sure_answers b.known y kb (is_sure b.known) refl) (remainders w sc p s f area is_typed d r nz (is_sure b.known)))
+      twos w sc p live s f area is_typed (λ v. is_never_zero b.known ≡ true → word_of_scalar sc p v ≢ 0) (λ q t. divisor_code sc (is_never_zero b.known) t ++ (Divide q t ∷ Mfhi d ∷ [])) a b na nb (on_binary Rem) ty.int ty.int ty.int d r n c k x y idle lo (omega arith) (omega arith) hb ready code oa ob
+      (sure_answers b.known y kb (is_never_zero b.known) refl) (remainders w sc p live s f area is_typed d r nz (is_never_zero b.known)))
 
-  orders_right : (o : BinaryOp) → IsOrder o → (a b : Made) (na nb : ℕ) (local : Bool) (x y : Costed Value) (l : Costed Location) → 1 ≤ na → 1 ≤ nb
-      → OperandRuns w sc p s a na ty.int x → OperandRuns w sc p s b nb ty.int y
+  orders_right : (o : BinaryOp) → IsOrdering o → (a b : Made) (na nb : ℕ) (local : Bool) (x y : Costed Value) (l : Costed Location) → 1 ≤ na → 1 ≤ nb
+      → OperandRuns w sc p live s a na ty.int x → OperandRuns w sc p live s b nb ty.int y
       → ((k : ℕ) → b.known ≡ Some k → KnownAs sc p ty.int k y)
-      → Claims w sc p s (binary_made sc o a b) (binary_need o na nb) false local ty.bool (paying 1 (both o x y)) l
-  orders_right _ lt a b na nb local x y l ha hb oa ob kb = operators_right (immediate_of Lt b.known) Lt ty.int ty.bool a b na nb local x y l refl ha hb oa ob (λ d r nz. orders w sc p s f area is_typed Lt d r nz lt)
-      (knows_int Lt ty.bool b.known y (on_binary Lt) kb (λ d r v nz fv g e. below_with w sc p s f area is_typed d r v nz fv g e))
-  orders_right _ le a b na nb local x y l ha hb oa ob kb = operators_right (immediate_of Le b.known) Le ty.int ty.bool a b na nb local x y l refl ha hb oa ob (λ d r nz. orders w sc p s f area is_typed Le d r nz le)
-      (knows_int Le ty.bool b.known y (on_binary Le) kb (λ d r v nz fv g e. at_most_with w sc p s f area is_typed d r v nz fv g e))
-  orders_right _ gt a b na nb local x y l ha hb oa ob kb = operators_right None Gt ty.int ty.bool a b na nb local x y l refl ha hb oa ob (λ d r nz. orders w sc p s f area is_typed Gt d r nz gt) (λ g e. absurd (cc))
-  orders_right _ ge a b na nb local x y l ha hb oa ob kb = operators_right (immediate_of Ge b.known) Ge ty.int ty.bool a b na nb local x y l refl ha hb oa ob (λ d r nz. orders w sc p s f area is_typed Ge d r nz ge)
-      (knows_int Ge ty.bool b.known y (on_binary Ge) kb (λ d r v nz fv g e. at_least_with w sc p s f area is_typed d r v nz fv g e))
+      → Claims w sc p live s (binary_made sc o a b) (binary_need o na nb) false local ty.bool (paying 1 (both o x y)) l
+  orders_right _ lt a b na nb local x y l ha hb oa ob kb = operators_right (immediate_of Lt b.known) Lt ty.int ty.bool a b na nb local x y l refl ha hb oa ob (λ d r nz. orders w sc p live s f area is_typed Lt d r nz lt)
+      (knows_int Lt ty.bool b.known y (on_binary Lt) kb (λ d r v nz fv g e. below_with w sc p live s f area is_typed d r v nz fv g e))
+  orders_right _ le a b na nb local x y l ha hb oa ob kb = operators_right (immediate_of Le b.known) Le ty.int ty.bool a b na nb local x y l refl ha hb oa ob (λ d r nz. orders w sc p live s f area is_typed Le d r nz le)
+      (knows_int Le ty.bool b.known y (on_binary Le) kb (λ d r v nz fv g e. at_most_with w sc p live s f area is_typed d r v nz fv g e))
+  orders_right _ gt a b na nb local x y l ha hb oa ob kb = operators_right None Gt ty.int ty.bool a b na nb local x y l refl ha hb oa ob (λ d r nz. orders w sc p live s f area is_typed Gt d r nz gt) (λ g e. absurd (cc))
+  orders_right _ ge a b na nb local x y l ha hb oa ob kb = operators_right (immediate_of Ge b.known) Ge ty.int ty.bool a b na nb local x y l refl ha hb oa ob (λ d r nz. orders w sc p live s f area is_typed Ge d r nz ge)
+      (knows_int Ge ty.bool b.known y (on_binary Ge) kb (λ d r v nz fv g e. at_least_with w sc p live s f area is_typed d r v nz fv g e))
 
   equals_right : (o : BinaryOp) → IsEquality o → (t : Ty) → is_scalar t ≡ true
-      → (a b : Made) (na nb : ℕ) (local : Bool) (x y : Costed Value) (l : Costed Location) → 1 ≤ na → 1 ≤ nb → OperandRuns w sc p s a na t x
-      → OperandRuns w sc p s b nb t y
+      → (a b : Made) (na nb : ℕ) (local : Bool) (x y : Costed Value) (l : Costed Location) → 1 ≤ na → 1 ≤ nb → OperandRuns w sc p live s a na t x
+      → OperandRuns w sc p live s b nb t y
       → ((k : ℕ) → b.known ≡ Some k → KnownAs sc p t k y)
-      → Claims w sc p s (binary_made sc o a b) (binary_need o na nb) false local ty.bool (paying 1 (both o x y)) l
-  equals_right _ eq t z a b na nb local x y l ha hb oa ob kb = operators_right (immediate_of Eq b.known) Eq t ty.bool a b na nb local x y l z ha hb oa ob (λ d r nz. equals w sc p s f area is_typed Eq t d r z nz eq)
-      (knows_scalar Eq t b.known y (on_binary Eq) kb (λ d r v nz fv g e. equals_with w sc p s f area is_typed d r t v nz z fv g e))
-  equals_right _ ne t z a b na nb local x y l ha hb oa ob kb = operators_right (immediate_of Ne b.known) Ne t ty.bool a b na nb local x y l z ha hb oa ob (λ d r nz. equals w sc p s f area is_typed Ne t d r z nz ne)
-      (knows_scalar Ne t b.known y (on_binary Ne) kb (λ d r v nz fv g e. differs_with w sc p s f area is_typed d r t v nz z fv g e))
+      → Claims w sc p live s (binary_made sc o a b) (binary_need o na nb) false local ty.bool (paying 1 (both o x y)) l
+  equals_right _ eq t z a b na nb local x y l ha hb oa ob kb = operators_right (immediate_of Eq b.known) Eq t ty.bool a b na nb local x y l z ha hb oa ob (λ d r nz. equals w sc p live s f area is_typed Eq t d r z nz eq)
+      (knows_scalar Eq t b.known y (on_binary Eq) kb (λ d r v nz fv g e. equals_with w sc p live s f area is_typed d r t v nz z fv g e))
+  equals_right _ ne t z a b na nb local x y l ha hb oa ob kb = operators_right (immediate_of Ne b.known) Ne t ty.bool a b na nb local x y l z ha hb oa ob (λ d r nz. equals w sc p live s f area is_typed Ne t d r z nz ne)
+      (knows_scalar Ne t b.known y (on_binary Ne) kb (λ d r v nz fv g e. differs_with w sc p live s f area is_typed d r t v nz z fv g e))
 
   logics_right : (o : BinaryOp) → IsLogical o → (a b : Made) (na nb : ℕ) (local : Bool) (x y : Costed Value) (l : Costed Location) → 1 ≤ na → 1 ≤ nb
-      → ((r : ℕ) → length (b.value r r) < 32768) → ValueRuns w sc p s a na ty.bool x → ValueRuns w sc p s b nb ty.bool y
-      → Claims w sc p s (binary_made sc o a b) (binary_need o na nb) false local ty.bool (paying 1 (both o x y)) l
+      → ((r : ℕ) → length (b.value r r) < 32768) → ValueRuns w sc p live s a na ty.bool x → ValueRuns w sc p live s b nb ty.bool y
+      → Claims w sc p live s (binary_made sc o a b) (binary_need o na nb) false local ty.bool (paying 1 (both o x y)) l
   logics_right _ and a b na nb local x y l ha hb short va vb = valued (binary_made sc And a b) (max na nb) local ty.bool _ l refl (λ d r n c k idle ready code lo hi nz no1.
-      logics w sc p s f area is_typed (λ z. Beq r 0 z) false a b na nb d r n c k x y (λ b. if b then y else at_no_cost (Ok (bool false))) idle lo (omega arith) (omega arith) hb nz no1 ready code (λ m there. let few : length (b.value r r) % 2 ^ 16 ≡ length (b.value r r) = let z = short r in omega (arith, z) in subst (λ v. Skip w sc p s f area is_typed (Beq r 0 v) false r (length (b.value r r)) m k) (sym few) (skips_and w sc p s f area is_typed r (length (b.value r r)) m k idle (short r) (subst (λ v. w.code m ≡ Some (Beq r 0 v)) few there))) refl refl va vb)
+      logics w sc p live s f area is_typed (λ z. Beq r 0 z) false a b na nb d r n c k x y (λ b. if b then y else at_no_cost (Ok (bool false))) idle lo (omega arith) (omega arith) hb nz no1 ready code (λ m there. let few : length (b.value r r) % 2 ^ 16 ≡ length (b.value r r) = let z = short r in omega (arith, z) in subst (λ v. Skip w sc p live s f area is_typed (Beq r 0 v) false r (length (b.value r r)) m k) (sym few) (skips_and w sc p live s f area is_typed r (length (b.value r r)) m k idle (short r) (subst (λ v. w.code m ≡ Some (Beq r 0 v)) few there))) refl refl va vb)
   logics_right _ or a b na nb local x y l ha hb short va vb = valued (binary_made sc Or a b) (max na nb) local ty.bool _ l refl (λ d r n c k idle ready code lo hi nz no1.
-      logics w sc p s f area is_typed (λ z. Bne r 0 z) true a b na nb d r n c k x y (λ b. if b then at_no_cost (Ok (bool true)) else y) idle lo (omega arith) (omega arith) hb nz no1 ready code (λ m there. let few : length (b.value r r) % 2 ^ 16 ≡ length (b.value r r) = let z = short r in omega (arith, z) in subst (λ v. Skip w sc p s f area is_typed (Bne r 0 v) true r (length (b.value r r)) m k) (sym few) (skips_or w sc p s f area is_typed r (length (b.value r r)) m k idle (short r) (subst (λ v. w.code m ≡ Some (Bne r 0 v)) few there))) refl refl va vb)
+      logics w sc p live s f area is_typed (λ z. Bne r 0 z) true a b na nb d r n c k x y (λ b. if b then at_no_cost (Ok (bool true)) else y) idle lo (omega arith) (omega arith) hb nz no1 ready code (λ m there. let few : length (b.value r r) % 2 ^ 16 ≡ length (b.value r r) = let z = short r in omega (arith, z) in subst (λ v. Skip w sc p live s f area is_typed (Bne r 0 v) true r (length (b.value r r)) m k) (sym few) (skips_or w sc p live s f area is_typed r (length (b.value r r)) m k idle (short r) (subst (λ v. w.code m ≡ Some (Bne r 0 v)) few there))) refl refl va vb)
 
   short_code : (e : CExpr) (r : ℕ) → nodes e ≤ 2000 → length ((made sc e).value r r) < 32768
   short_code e r few = let a = value_length sc e r r in omega (arith, a, few)
 
   -- a value with its sign changed
-  negatives_right : (o : Option ℕ) (m : Made) (need : ℕ) (x : Costed Value) (l : Costed Location) → 1 ≤ need → OperandRuns w sc p s m need ty.int x
+  negatives_right : (o : Option ℕ) (m : Made) (need : ℕ) (x : Costed Value) (l : Costed Location) → 1 ≤ need → OperandRuns w sc p live s m need ty.int x
       → ((k : ℕ) → (negative_made o m).known ≡ Some k → KnownAs sc p ty.int k (paying 1 (x >>= λ v. at_no_cost (on_unary Negate v))))
-      → Claims w sc p s (negative_made o m) need false false ty.int (paying 1 (x >>= λ v. at_no_cost (on_unary Negate v))) l
+      → Claims w sc p live s (negative_made o m) need false false ty.int (paying 1 (x >>= λ v. at_no_cost (on_unary Negate v))) l
   negatives_right (Some n) m need x l some oa known =
       let a = known (Rattle.c0_expr_code.specs.Code.negated n) refl in
-      subst (λ y. Claims w sc p s (negative_made (Some n) m) need false false ty.int y l) (sym a.is) (constants (Rattle.c0_expr_code.specs.Code.negated n) a.units need a.value ty.int None false l (omega arith) a.some (sym a.word_is) a.fits)
+      subst (λ y. Claims w sc p live s (negative_made (Some n) m) need false false ty.int y l) (sym a.is) (constants (Rattle.c0_expr_code.specs.Code.negated n) a.units need a.value ty.int None false l (omega arith) a.some (sym a.word_is) a.fits)
   negatives_right None m need x l some oa known = valued (negative_made None m) need false ty.int _ l refl (λ d r n c k idle ready code lo hi nz no1.
-      ones w sc p s f area is_typed (λ q. Subu d 0 q ∷ []) m need (on_unary Negate) ty.int ty.int d r n c k x idle lo hi some ready code oa (negatives w sc p s f area is_typed d r nz))
+      ones w sc p live s f area is_typed (λ q. Subu d 0 q ∷ []) m need (on_unary Negate) ty.int ty.int d r n c k x idle lo hi some ready code oa (negatives w sc p live s f area is_typed d r nz))
 
   -- every typed expression
-  pub right : (e : CExpr) (t : Ty) → HasNumberedType sc.env e t → nodes e ≤ 2000 → Right w sc p s e t
-  right _ _ (a_number {n = n} h) few = constants n 1 1 (int (pos n)) ty.int (Some n) false _ (omega (arith, h)) (omega arith) (sym (word_pos n (record { sfits = omega (arith, h) }))) (record { sfits = omega (arith, h) })
-  right _ _ a_true few = constants 1 1 1 (bool true) ty.bool None false _ (omega arith) (omega arith) refl tt
-  right _ _ a_false few = constants 0 1 1 (bool false) ty.bool None false _ (omega arith) (omega arith) refl tt
-  right _ _ (a_variable {x = x} {d = d} h) few = variables x.kind x.number d h
-  right _ _ (a_field {e = e} {f = g} {x = x} {d = d} pl h q) few =
-      let part = right e (ty.named x) h (omega arith) in
+  pub right : (e : CExpr) (t : Ty) → HasNumberedType sc.env e t → nodes e ≤ 2000 → Covers live (reads e) → Right w sc p live s e t
+  right _ _ (a_number {n = n} h) few cover = constants n 1 1 (int (pos n)) ty.int (Some n) false _ (omega (arith, h)) (omega arith) (sym (word_pos n (record { sfits = omega (arith, h) }))) (record { sfits = omega (arith, h) })
+  right _ _ a_true few cover = constants 1 1 1 (bool true) ty.bool None false _ (omega arith) (omega arith) refl tt
+  right _ _ a_false few cover = constants 0 1 1 (bool false) ty.bool None false _ (omega arith) (omega arith) refl tt
+  right _ _ (a_variable {x = x} {d = d} h) few cover = variables x.kind x.number d h (λ q. cover x.number (both_true (is_in_frame x.kind) (nat_eq x.number x.number) q (eq-eqb x.number x.number refl)))
+  right _ _ (a_field {e = e} {f = g} {x = x} {d = d} pl h q) few cover =
+      let part = right e (ty.named x) h (omega arith) cover in
       placed _ (need e) true (is_frame_place e) d.ty 0 (field_of g (place_of e s)) (need_some e) (omega arith)
+      (λ q u l y. cover (base_of l.path) (base_read (reads e) l.path (field_based (reads e) g (place_of e s) (based e s q) u l y)))
       (field_runs (λ r. (made sc e).place r) (need e) 0 (is_frame_place e) x g d.ty (type_at sc.env e) (place_of e s) (need_some e) (type_is sc.env e (ty.named x) h) (typed_there (fields_named sc.env.structs x) g.number d q) (part.place pl (stands_not e (ty.named x) h pl refl)))
-  right _ _ (a_target_field {e = e} {f = g} {x = x} {d = d} h q) few =
-      let part = right e (ty.pointer (ty.named x)) h (omega arith) in
-      placed _ (need e) true false d.ty 2 (field_of g (pointed (value_of e s))) (need_some e) (omega arith)
+  right _ _ (a_target_field {e = e} {f = g} {x = x} {d = d} h q) few cover =
+      let part = right e (ty.pointer (ty.named x)) h (omega arith) cover in
+      placed _ (need e) true false d.ty 2 (field_of g (pointed (value_of e s))) (need_some e) (omega arith) (λ q. absurd (cc))
       (field_runs (λ r. target_address sc (made sc e) r) (need e) 2 false x g d.ty (target (type_at sc.env e)) (pointed (value_of e s)) (need_some e) (ap target (type_is sc.env e (ty.pointer (ty.named x)) h)) (typed_there (fields_named sc.env.structs x) g.number d q) (target_runs (made sc e) (need e) (ty.named x) (value_of e s) (part.operand refl) (need_some e)))
-  right _ t (an_element {e = e} {i = i} {n = n} pl h g) few =
-      let part = right e (ty.array t n) h (omega arith) in
-      let number = right i ty.int g (omega arith) in
+  right _ t (an_element {e = e} {i = i} {n = n} pl h g) few cover =
+      let part = right e (ty.array t n) h (omega arith) (λ m y. cover m (or_left (reads e m) (reads i m) y)) in
+      let number = right i ty.int g (omega arith) (λ m y. cover m (or_right (reads e m) (reads i m) y)) in
       placed _ (max (need e) (need i + 1)) true (is_frame_place e) t 10 (indexed s (place_of e s) (value_of i s)) (let a = need_some e in omega (arith, a)) (omega arith)
+      (λ q u l y. let read = base_read (reads e) l.path (element_of_based (reads e) s (place_of e s) (value_of i s) (based e s q) u l y) in cover (base_of l.path) (or_left (reads e (base_of l.path)) (reads i (base_of l.path)) read))
       (subst (λ u. AddressRuns (λ r. element_address sc (element_words sc.env.structs u) (length_in u) (made sc i).literal ((made sc e).place r) (made sc i) r) (max (need e) (need i + 1)) (is_frame_place e) t 10 (indexed s (place_of e s) (value_of i s))) (sym (type_is sc.env e (ty.array t n) h))
       (element_runs (λ r. (made sc e).place r) (made sc i) (need e) (need i) (is_frame_place e) n t (place_of e s) (value_of i s) (need_some e) (need_some i) (part.place pl (stands_not e (ty.array t n) h pl refl)) (number.operand refl) (made sc i).literal (λ j q. (literal_is sc i j s q, small_literal sc i j g q))))
-  right _ t (a_target {e = e} h) few =
-      let part = right e (ty.pointer t) h (omega arith) in
-      placed _ (need e) true false t 2 (pointed (value_of e s)) (need_some e) (omega arith) (target_runs (made sc e) (need e) t (value_of e s) (part.operand refl) (need_some e))
-  right _ _ (an_address {e = e} {t = t} pl away h) few =
-      let part = right e t h (omega arith) in
+  right _ t (a_target {e = e} h) few cover =
+      let part = right e (ty.pointer t) h (omega arith) cover in
+      placed _ (need e) true false t 2 (pointed (value_of e s)) (need_some e) (omega arith) (λ q. absurd (cc)) (target_runs (made sc e) (need e) t (value_of e s) (part.operand refl) (need_some e))
+  right _ _ (an_address {e = e} {t = t} pl away h) few cover =
+      let part = right e t h (omega arith) cover in
       valued _ (need e) false (ty.pointer t) _ _ refl (λ d r n c k idle ready code lo hi nz no1.
       let some = need_some e in
       let a = part.place pl (stands_away e pl away) r n c k idle ready (code_front w n ((made sc e).place r).code _ code) lo hi in
       node w sc 3 n (n + length (access_code (λ b j. Addiu d b j) r ((made sc e).place r))) c k (HoldsValue sc p d r d (ty.pointer t) c) (place_of e s >>= λ l. at_no_cost (Ok (at l))) (omega arith)
-      (addresses w sc p s f area is_typed t ((made sc e).place r) 0 d r n c k (place_of e s) idle lo (omega arith) nz a.0 code
+      (addresses w sc p live s f area is_typed t ((made sc e).place r) 0 d r n c k (place_of e s) idle lo (omega arith) nz a.0 code
       (subst (λ b. Evaluates w sc 0 n (n + length ((made sc e).place r).code) c k (HoldsAddress sc p ((made sc e).place r).base ((made sc e).place r).displacement r b t c) (place_of e s)) away a.1)))
-  right _ _ (a_negative {e = e} h) few =
-      negatives_right (made sc e).literal (made sc e) (need e) (value_of e s) _ (need_some e) ((right e ty.int h (omega arith)).operand refl) (λ k q. negative_known sc p e s k (made sc e).literal h refl q)
-  right _ _ (a_negation {e = e} h) few =
-      let part = right e ty.bool h (omega arith) in
-      valued _ (need e) false ty.bool _ _ refl (λ d r n c k idle ready code lo hi nz no1. ones w sc p s f area is_typed (λ q. Xori d q 1 ∷ []) (made sc e) (need e) (on_unary Not) ty.bool ty.bool d r n c k (value_of e s) idle lo hi (need_some e) ready code (part.operand refl) (negations w sc p s f area is_typed d r nz))
-  right _ _ (arithmetic {o = o} {a = a} {b = b} q h g) few =
-      arithmetic_right o q (made sc a) (made sc b) (need a) (need b) false (value_of a s) (value_of b s) _ (need_some a) (need_some b) ((right a ty.int h (omega arith)).operand refl) ((right b ty.int g (omega arith)).operand refl) (λ k e. known_is sc p a ty.int s k h e) (λ k e. known_is sc p b ty.int s k g e)
-  right _ _ (order {o = o} {a = a} {b = b} q h g) few =
-      orders_right o q (made sc a) (made sc b) (need a) (need b) false (value_of a s) (value_of b s) _ (need_some a) (need_some b) ((right a ty.int h (omega arith)).operand refl) ((right b ty.int g (omega arith)).operand refl) (λ k e. known_is sc p b ty.int s k g e)
-  right _ _ (logic {o = o} {a = a} {b = b} q h g) few =
-      logics_right o q (made sc a) (made sc b) (need a) (need b) false (value_of a s) (value_of b s) _ (need_some a) (need_some b) (λ r. short_code b r (omega arith)) ((right a ty.bool h (omega arith)).value refl) ((right b ty.bool g (omega arith)).value refl)
-  right _ _ (equality {o = o} {a = a} {b = b} {t = t} q z h g) few =
-      equals_right o q t z (made sc a) (made sc b) (need a) (need b) false (value_of a s) (value_of b s) _ (need_some a) (need_some b) ((right a t h (omega arith)).operand z) ((right b t g (omega arith)).operand z) (λ k e. known_is sc p b t s k g e)
-  right _ _ (null_left {r = span} {o = o} {b = b} {t = t} q g) few =
-      equals_right o q (ty.pointer t) refl (made sc (null span)) (made sc b) 1 (need b) false (value_of (null span) s) (value_of b s) _ (omega arith) (need_some b) ((null_right_is span t).operand refl) ((right b (ty.pointer t) g (omega arith)).operand refl) (λ k e. known_is sc p b (ty.pointer t) s k g e)
-  right _ _ (null_right {r = span} {o = o} {a = a} {t = t} q h) few =
-      equals_right o q (ty.pointer t) refl (made sc a) (made sc (null span)) (need a) 1 false (value_of a s) (value_of (null span) s) _ (need_some a) (omega arith) ((right a (ty.pointer t) h (omega arith)).operand refl) ((null_right_is span t).operand refl) (λ k e. null_known sc p t k e)
+  right _ _ (a_negative {e = e} h) few cover =
+      negatives_right (made sc e).literal (made sc e) (need e) (value_of e s) _ (need_some e) ((right e ty.int h (omega arith) cover).operand refl) (λ k q. negative_known sc p e s k (made sc e).literal h refl q)
+  right _ _ (a_negation {e = e} h) few cover =
+      let part = right e ty.bool h (omega arith) cover in
+      valued _ (need e) false ty.bool _ _ refl (λ d r n c k idle ready code lo hi nz no1. ones w sc p live s f area is_typed (λ q. Xori d q 1 ∷ []) (made sc e) (need e) (on_unary Not) ty.bool ty.bool d r n c k (value_of e s) idle lo hi (need_some e) ready code (part.operand refl) (negations w sc p live s f area is_typed d r nz))
+  right _ _ (arithmetic {o = o} {a = a} {b = b} q h g) few cover =
+      arithmetic_right o q (made sc a) (made sc b) (need a) (need b) false (value_of a s) (value_of b s) _ (need_some a) (need_some b) ((right a ty.int h (omega arith) (λ m y. cover m (or_left (reads a m) (reads b m) y))).operand refl) ((right b ty.int g (omega arith) (λ m y. cover m (or_right (reads a m) (reads b m) y))).operand refl) (λ k e. known_is sc p a ty.int s k h e) (λ k e. known_is sc p b ty.int s k g e)
+  right _ _ (order {o = o} {a = a} {b = b} q h g) few cover =
+      orders_right o q (made sc a) (made sc b) (need a) (need b) false (value_of a s) (value_of b s) _ (need_some a) (need_some b) ((right a ty.int h (omega arith) (λ m y. cover m (or_left (reads a m) (reads b m) y))).operand refl) ((right b ty.int g (omega arith) (λ m y. cover m (or_right (reads a m) (reads b m) y))).operand refl) (λ k e. known_is sc p b ty.int s k g e)
+  right _ _ (logic {o = o} {a = a} {b = b} q h g) few cover =
+      logics_right o q (made sc a) (made sc b) (need a) (need b) false (value_of a s) (value_of b s) _ (need_some a) (need_some b) (λ r. short_code b r (omega arith)) ((right a ty.bool h (omega arith) (λ m y. cover m (or_left (reads a m) (reads b m) y))).value refl) ((right b ty.bool g (omega arith) (λ m y. cover m (or_right (reads a m) (reads b m) y))).value refl)
+  right _ _ (equality {o = o} {a = a} {b = b} {t = t} q z h g) few cover =
+      equals_right o q t z (made sc a) (made sc b) (need a) (need b) false (value_of a s) (value_of b s) _ (need_some a) (need_some b) ((right a t h (omega arith) (λ m y. cover m (or_left (reads a m) (reads b m) y))).operand z) ((right b t g (omega arith) (λ m y. cover m (or_right (reads a m) (reads b m) y))).operand z) (λ k e. known_is sc p b t s k g e)
+  right _ _ (null_left {r = span} {o = o} {b = b} {t = t} q g) few cover =
+      equals_right o q (ty.pointer t) refl (made sc (null span)) (made sc b) 1 (need b) false (value_of (null span) s) (value_of b s) _ (omega arith) (need_some b) ((null_right_is span t).operand refl) ((right b (ty.pointer t) g (omega arith) (λ m y. cover m y)).operand refl) (λ k e. known_is sc p b (ty.pointer t) s k g e)
+  right _ _ (null_right {r = span} {o = o} {a = a} {t = t} q h) few cover =
+      equals_right o q (ty.pointer t) refl (made sc a) (made sc (null span)) (need a) 1 false (value_of a s) (value_of (null span) s) _ (need_some a) (omega arith) ((right a (ty.pointer t) h (omega arith) (λ m y. cover m (or_left (reads a m) false y))).operand refl) ((null_right_is span t).operand refl) (λ k e. null_known sc p t k e)
 
   -- and every expression that may stand where a type is asked
-  pub given : (e : CExpr) (t : Ty) → IsNumberedGiven sc.env e t → nodes e ≤ 2000 → Right w sc p s e t
-  given _ t (a_value {e = e} h) few = right e t h few
-  given _ _ (a_null {s = span} {t = t}) few = null_right_is span t
+  pub given : (e : CExpr) (t : Ty) → IsNumberedGiven sc.env e t → nodes e ≤ 2000 → Covers live (reads e) → Right w sc p live s e t
+  given _ t (a_value {e = e} h) few cover = right e t h few cover
+  given _ _ (a_null {s = span} {t = t}) few cover = null_right_is span t
+
+  -- a place, whose variable may be found without being live
+  pub places : (e : CExpr) (t : Ty) → HasNumberedType sc.env e t → nodes e ≤ 2000 → Covers live (reads_to_find e) → is_lvalue e ≡ true → (made sc e).stands ≡ None
+      → PlaceRuns w sc p live s (made sc e) (need e) (is_frame_place e) t (place_of e s)
+  places (var x) _ (a_variable {d = d} h) few cover lvalue none = variable_found x.kind x.number d h none
+  places (field span e g) t h few cover lvalue none = (right (field span e g) t h few cover).place lvalue none
+  places (arrow span e g) t h few cover lvalue none = (right (arrow span e g) t h few cover).place lvalue none
+  places (index span e i) t h few cover lvalue none = (right (index span e i) t h few cover).place lvalue none
+  places (deref span e) t h few cover lvalue none = (right (deref span e) t h few cover).place lvalue none
+  places _ t h few cover lvalue none = absurd (cc)

@@ -23,11 +23,11 @@ use Rattle.c0_meaning.specs.TypedState.{Fits}
 use Rattle.cvm_words.specs.Words.{word_of}
 use Rattle.c0_expr_code.specs.Scope.{Scope}
 use Rattle.c0_expr_code.specs.Code.{low, is_near, negated, equality_with, immediate}
-use Rattle.c0_expr_code.specs.Bases.{Bases, word}
+use Rattle.c0_expr_code.specs.Bases.{Bases, word_of_scalar}
 use Rattle.c0_expr_code.specs.Relation.{layout, StateIsTyped, Area, Evaluates, HoldsValue}
-use Rattle.c0_expr_code.proofs.Machine.{Machine, said_step}
+use Rattle.c0_expr_code.proofs.CodeRuns.{Machine, said_step}
 use Rattle.c0_expr_code.proofs.Words.{word_sum, word_difference, word_less, xor_tests, not_flag, not_less}
-use Rattle.c0_expr_code.proofs.Steps.{same_read}
+use Rattle.c0_expr_code.proofs.SideBySide.{same_read}
 use Rattle.c0_expr_code.proofs.Operators.{FinishesOne, once, twice, same_words}
 
 some_is : {A : Type 0} (b : Bool) (c f : A) → cond b (Some c) None ≡ Some f → (b ≡ true) × (c ≡ f)
@@ -82,10 +82,10 @@ above_none : (n : ℕ) → nat_lt 0 n ≡ not (nat_eq n 0)
 above_none zero = refl
 above_none (suc n) = lt-ltb 0 (suc n) (omega arith) ∙ ap not (sym (ne_eqb (suc n) 0 (λ e. absurd (omega (arith, e)))))
 
-module _ (w : World) (sc : Scope) (p : Bases) (s : C0State) (f : Machine w) (area : Area w sc p) (is_typed : StateIsTyped sc p s) where
+module _ (w : World) (sc : Scope) (p : Bases) (live : ℕ → Bool) (s : C0State) (f : Machine w) (area : Area w sc p) (is_typed : StateIsTyped sc p s) where
   -- a value in a register, and then the code of the operator with a constant
   abbrev pub With : (ℕ → ℕ → List Inst) → (d r : ℕ) → Ty → Ty → (Value → Result Value Failure) → Type 0
-  With g d r t z on = FinishesOne w sc p s f area is_typed (λ q. g d q) d r t z on
+  With g d r t z on = FinishesOne w sc p live s f area is_typed (λ q. g d q) d r t z on
 
   on_number : (g : ℕ → ℕ → List Inst) (d r : ℕ) (z : Ty) (on : Value → Result Value Failure) →
       ((x : ℤ) (q n : ℕ) (a : Contents) (k : Behind) → k.pending ≡ Idle → FitsSigned w32 x → reg a.regs q ≡ word_of x → CodeAt w n (g d q) → Evaluates w sc 5 n (n + length (g d q)) a k (HoldsValue sc p d r d z a) (at_no_cost (on (int x)))) → With g d r ty.int z on
@@ -98,7 +98,7 @@ module _ (w : World) (sc : Scope) (p : Bases) (s : C0State) (f : Machine w) (are
   adds : (d r : ℕ) (z : ℤ) → d ≢ 0 → FitsSigned w32 z → extended (word_of z % 2 ^ 16) ≡ word_of z
       → With (λ d q. Addiu d q (low (word_of z)) ∷ []) d r ty.int ty.int (λ x. on_binary Add x (int z))
   adds d r z nz fz near = on_number (λ d q. Addiu d q (low (word_of z)) ∷ []) d r ty.int _ (λ x q n a k idle fx ex there.
-      once w sc p s f area is_typed d r (word_of (int_wrap w32 (x +ℤ z))) n ty.int (int (int_wrap w32 (x +ℤ z))) a k nz refl (SFits-int_wrap w32 _)
+      once w sc p live s f area is_typed d r (word_of (int_wrap w32 (x +ℤ z))) n ty.int (int (int_wrap w32 (x +ℤ z))) a k nz refl (SFits-int_wrap w32 _)
       (said_step w f (Addiu d q (low (word_of z))) (Becomes (word_of (int_wrap w32 (x +ℤ z)))) n a k there.0 refl idle (ap₂ sum ex near ∙ word_sum x z fx fz)))
 
   pub adds_left : (d r : ℕ) (z : ℤ) → d ≢ 0 → FitsSigned w32 z → (g : ℕ → ℕ → List Inst) → immediate Add (word_of z) ≡ Some g
@@ -107,13 +107,13 @@ module _ (w : World) (sc : Scope) (p : Bases) (s : C0State) (f : Machine w) (are
       let h = near_some (word_of z) (λ d q. Addiu d q (low (word_of z)) ∷ []) g e in
       subst (λ g. With g d r ty.int ty.int (λ x. on_binary Add (int z) x)) h.1
       (on_number (λ d q. Addiu d q (low (word_of z)) ∷ []) d r ty.int _ (λ x q n a k idle fx ex there.
-      once w sc p s f area is_typed d r (word_of (int_wrap w32 (z +ℤ x))) n ty.int (int (int_wrap w32 (z +ℤ x))) a k nz refl (SFits-int_wrap w32 _)
+      once w sc p live s f area is_typed d r (word_of (int_wrap w32 (z +ℤ x))) n ty.int (int (int_wrap w32 (z +ℤ x))) a k nz refl (SFits-int_wrap w32 _)
       (said_step w f (Addiu d q (low (word_of z))) (Becomes (word_of (int_wrap w32 (z +ℤ x)))) n a k there.0 refl idle (ap₂ sum ex h.0 ∙ word_sum x z fx fz ∙ ap (λ y. word_of (int_wrap w32 y)) (+ℤ_comm x z)))))
 
   subtracts : (d r : ℕ) (z : ℤ) → d ≢ 0 → FitsSigned w32 z → extended (negated (word_of z) % 2 ^ 16) ≡ negated (word_of z)
       → With (λ d q. Addiu d q (low (negated (word_of z))) ∷ []) d r ty.int ty.int (λ x. on_binary Sub x (int z))
   subtracts d r z nz fz near = on_number (λ d q. Addiu d q (low (negated (word_of z))) ∷ []) d r ty.int _ (λ x q n a k idle fx ex there.
-      once w sc p s f area is_typed d r (word_of (int_wrap w32 (x -ℤ z))) n ty.int (int (int_wrap w32 (x -ℤ z))) a k nz refl (SFits-int_wrap w32 _)
+      once w sc p live s f area is_typed d r (word_of (int_wrap w32 (x -ℤ z))) n ty.int (int (int_wrap w32 (x -ℤ z))) a k nz refl (SFits-int_wrap w32 _)
       (said_step w f (Addiu d q (low (negated (word_of z)))) (Becomes (word_of (int_wrap w32 (x -ℤ z)))) n a k there.0 refl idle (ap₂ sum ex near ∙ less_is (word_of x) (word_of z) ∙ word_difference x z fx fz)))
     where
       less_is : (a b : ℕ) → sum a (negated b) ≡ difference a b
@@ -122,19 +122,19 @@ module _ (w : World) (sc : Scope) (p : Bases) (s : C0State) (f : Machine w) (are
   below : (d r : ℕ) (z : ℤ) → d ≢ 0 → FitsSigned w32 z → extended (word_of z % 2 ^ 16) ≡ word_of z
       → With (λ d q. Slti d q (low (word_of z)) ∷ []) d r ty.int ty.bool (λ x. on_binary Lt x (int z))
   below d r z nz fz near = on_number (λ d q. Slti d q (low (word_of z)) ∷ []) d r ty.bool _ (λ x q n a k idle fx ex there.
-      once w sc p s f area is_typed d r (flag (int_lt x z)) n ty.bool (bool (int_lt x z)) a k nz refl tt
+      once w sc p live s f area is_typed d r (flag (int_lt x z)) n ty.bool (bool (int_lt x z)) a k nz refl tt
       (said_step w f (Slti d q (low (word_of z))) (Becomes (flag (int_lt x z))) n a k there.0 refl idle (ap flag (ap₂ less ex near ∙ word_less x z fx fz))))
 
   at_most : (d r : ℕ) (z : ℤ) → d ≢ 0 → FitsSigned w32 z → (k : ℕ) → k ≡ (word_of z + 1) % 2 ^ 32 → extended (k % 2 ^ 16) ≡ k
       → With (λ d q. Slti d q (low k) ∷ []) d r ty.int ty.bool (λ x. on_binary Le x (int z))
   at_most d r z nz fz b e near = on_number (λ d q. Slti d q (low b) ∷ []) d r ty.bool _ (λ x q n a k idle fx ex there.
-      once w sc p s f area is_typed d r (flag (int_le x z)) n ty.bool (bool (int_le x z)) a k nz refl tt
+      once w sc p live s f area is_typed d r (flag (int_le x z)) n ty.bool (bool (int_le x z)) a k nz refl tt
       (said_step w f (Slti d q (low b)) (Becomes (flag (int_le x z))) n a k there.0 refl idle (ap flag (ap (λ y. less y (extended (low b))) ex ∙ less_near x z b fx fz e near))))
 
   at_least : (d r : ℕ) (z : ℤ) → d ≢ 0 → FitsSigned w32 z → extended (word_of z % 2 ^ 16) ≡ word_of z
       → With (λ d q. Slti d q (low (word_of z)) ∷ Xori d d 1 ∷ []) d r ty.int ty.bool (λ x. on_binary Ge x (int z))
   at_least d r z nz fz near = on_number (λ d q. Slti d q (low (word_of z)) ∷ Xori d d 1 ∷ []) d r ty.bool _ (λ x q n a k idle fx ex there.
-      twice w sc p s f area is_typed d r (flag (int_lt x z)) (flag (int_le z x)) n ty.bool (bool (int_le z x)) a k nz refl tt
+      twice w sc p live s f area is_typed d r (flag (int_lt x z)) (flag (int_le z x)) n ty.bool (bool (int_le z x)) a k nz refl tt
       (said_step w f (Slti d q (low (word_of z))) (Becomes (flag (int_lt x z))) n a k there.0 refl idle (ap flag (ap₂ less ex near ∙ word_less x z fx fz)))
       (said_step w f (Xori d d 1) (Becomes (flag (int_le z x))) (n + 1) (with_reg a d (flag (int_lt x z))) k there.1.0 refl idle (ap (λ y. bit_xor y 1) (same_read a.regs d (flag (int_lt x z)) nz) ∙ not_flag (int_lt x z) ∙ ap flag (not_less z x))))
 
@@ -154,35 +154,35 @@ module _ (w : World) (sc : Scope) (p : Bases) (s : C0State) (f : Machine w) (are
 
   equal_with : (o : BinaryOp) (i : ℕ → ℕ → Inst) (turn : Bool → Bool) → Tells i turn
       → ((x y : Value) → on_binary o x y ≡ Ok (bool (turn (same x y)))) → (d r : ℕ) (t : Ty) (v : Value) → d ≢ 0 → is_scalar t ≡ true
-      → Fits sc.env.structs (layout sc p) t v → (g : ℕ → ℕ → List Inst) → equality_with i (word sc p v) ≡ Some g
+      → Fits sc.env.structs (layout sc p) t v → (g : ℕ → ℕ → List Inst) → equality_with i (word_of_scalar sc p v) ≡ Some g
       → With g d r t ty.bool (λ x. on_binary o x v)
   equal_with o i turn tells on d r t v nz scalar fv g e x q n a k idle fx ex there =
-      let is = same_words w sc p s f area is_typed t x v scalar fx fv in
-      subst (λ z. Evaluates w sc 5 n (n + length (g d q)) a k (HoldsValue sc p d r d ty.bool a) (at_no_cost z)) (sym (on x v)) (by_code is (either_some (nat_eq (word sc p v) 0) (nat_lt (word sc p v) (2 ^ 16)) (λ d q. i d q ∷ []) (λ d q. Xori d q (word sc p v) ∷ i d d ∷ []) g e))
+      let is = same_words w sc p live s f area is_typed t x v scalar fx fv in
+      subst (λ z. Evaluates w sc 5 n (n + length (g d q)) a k (HoldsValue sc p d r d ty.bool a) (at_no_cost z)) (sym (on x v)) (by_code is (either_some (nat_eq (word_of_scalar sc p v) 0) (nat_lt (word_of_scalar sc p v) (2 ^ 16)) (λ d q. i d q ∷ []) (λ d q. Xori d q (word_of_scalar sc p v) ∷ i d d ∷ []) g e))
     where
-      by_code : same x v ≡ nat_eq (word sc p x) (word sc p v)
-          → ((nat_eq (word sc p v) 0 ≡ true) × ((λ d q. i d q ∷ []) ≡ g)) ⊎ ((λ d q. Xori d q (word sc p v) ∷ i d d ∷ []) ≡ g)
+      by_code : same x v ≡ nat_eq (word_of_scalar sc p x) (word_of_scalar sc p v)
+          → ((nat_eq (word_of_scalar sc p v) 0 ≡ true) × ((λ d q. i d q ∷ []) ≡ g)) ⊎ ((λ d q. Xori d q (word_of_scalar sc p v) ∷ i d d ∷ []) ≡ g)
           → Evaluates w sc 5 n (n + length (g d q)) a k (HoldsValue sc p d r d ty.bool a) (at_no_cost (Ok (bool (turn (same x v)))))
       by_code is (inl h) =
-          let zero_is : nat_eq (word sc p x) 0 ≡ same x v = ap (nat_eq (word sc p x)) (sym (eqb-true (word sc p v) 0 h.0)) ∙ sym is in
+          let zero_is : nat_eq (word_of_scalar sc p x) 0 ≡ same x v = ap (nat_eq (word_of_scalar sc p x)) (sym (eqb-true (word_of_scalar sc p v) 0 h.0)) ∙ sym is in
           let code = subst (λ g. CodeAt w n (g d q)) (sym h.1) there in
           subst (λ g. Evaluates w sc 5 n (n + length (g d q)) a k (HoldsValue sc p d r d ty.bool a) (at_no_cost (Ok (bool (turn (same x v)))))) h.1
-          (once w sc p s f area is_typed d r (flag (turn (nat_eq (word sc p x) 0))) n ty.bool (bool (turn (same x v))) a k nz (ap (λ y. flag (turn y)) zero_is) tt (tells.steps d q n (word sc p x) a k idle code.0 ex))
+          (once w sc p live s f area is_typed d r (flag (turn (nat_eq (word_of_scalar sc p x) 0))) n ty.bool (bool (turn (same x v))) a k nz (ap (λ y. flag (turn y)) zero_is) tt (tells.steps d q n (word_of_scalar sc p x) a k idle code.0 ex))
       by_code is (inr h) =
           let code = subst (λ g. CodeAt w n (g d q)) (sym h) there in
-          let u : ℕ = bit_xor (word sc p x) (word sc p v) in
-          let zero_is : nat_eq (bit_xor (word sc p x) (word sc p v)) 0 ≡ same x v = xor_zero (word sc p x) (word sc p v) ∙ sym is in
+          let u : ℕ = bit_xor (word_of_scalar sc p x) (word_of_scalar sc p v) in
+          let zero_is : nat_eq (bit_xor (word_of_scalar sc p x) (word_of_scalar sc p v)) 0 ≡ same x v = xor_zero (word_of_scalar sc p x) (word_of_scalar sc p v) ∙ sym is in
           subst (λ g. Evaluates w sc 5 n (n + length (g d q)) a k (HoldsValue sc p d r d ty.bool a) (at_no_cost (Ok (bool (turn (same x v)))))) h
-          (twice w sc p s f area is_typed d r (bit_xor (word sc p x) (word sc p v)) (flag (turn (nat_eq (bit_xor (word sc p x) (word sc p v)) 0))) n ty.bool (bool (turn (same x v))) a k nz (ap (λ y. flag (turn y)) zero_is) tt
-          (said_step w f (Xori d q (word sc p v)) (Becomes (bit_xor (word sc p x) (word sc p v))) n a k code.0 refl idle (ap (λ y. bit_xor y (word sc p v)) ex))
-          (tells.steps d d (n + 1) (bit_xor (word sc p x) (word sc p v)) (with_reg a d (bit_xor (word sc p x) (word sc p v))) k idle code.1.0 (same_read a.regs d (bit_xor (word sc p x) (word sc p v)) nz)))
+          (twice w sc p live s f area is_typed d r (bit_xor (word_of_scalar sc p x) (word_of_scalar sc p v)) (flag (turn (nat_eq (bit_xor (word_of_scalar sc p x) (word_of_scalar sc p v)) 0))) n ty.bool (bool (turn (same x v))) a k nz (ap (λ y. flag (turn y)) zero_is) tt
+          (said_step w f (Xori d q (word_of_scalar sc p v)) (Becomes (bit_xor (word_of_scalar sc p x) (word_of_scalar sc p v))) n a k code.0 refl idle (ap (λ y. bit_xor y (word_of_scalar sc p v)) ex))
+          (tells.steps d d (n + 1) (bit_xor (word_of_scalar sc p x) (word_of_scalar sc p v)) (with_reg a d (bit_xor (word_of_scalar sc p x) (word_of_scalar sc p v))) k idle code.1.0 (same_read a.regs d (bit_xor (word_of_scalar sc p x) (word_of_scalar sc p v)) nz)))
 
   pub equals_with : (d r : ℕ) (t : Ty) (v : Value) → d ≢ 0 → is_scalar t ≡ true → Fits sc.env.structs (layout sc p) t v → (g : ℕ → ℕ → List Inst)
-      → immediate Eq (word sc p v) ≡ Some g → With g d r t ty.bool (λ x. on_binary Eq x v)
+      → immediate Eq (word_of_scalar sc p v) ≡ Some g → With g d r t ty.bool (λ x. on_binary Eq x v)
   equals_with d r t v nz scalar fv g e = equal_with Eq (λ d q. Sltiu d q 1) (λ b. b) tells_equal (λ x y. refl) d r t v nz scalar fv g e
 
   pub differs_with : (d r : ℕ) (t : Ty) (v : Value) → d ≢ 0 → is_scalar t ≡ true → Fits sc.env.structs (layout sc p) t v → (g : ℕ → ℕ → List Inst)
-      → immediate Ne (word sc p v) ≡ Some g → With g d r t ty.bool (λ x. on_binary Ne x v)
+      → immediate Ne (word_of_scalar sc p v) ≡ Some g → With g d r t ty.bool (λ x. on_binary Ne x v)
   differs_with d r t v nz scalar fv g e = equal_with Ne (λ d q. Sltu d 0 q) not tells_other (λ x y. refl) d r t v nz scalar fv g e
 
   pub adds_with : (d r : ℕ) (z : ℤ) → d ≢ 0 → FitsSigned w32 z → (g : ℕ → ℕ → List Inst) → immediate Add (word_of z) ≡ Some g

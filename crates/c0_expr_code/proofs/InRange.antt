@@ -17,7 +17,7 @@ use Rattle.c0_tree.specs.Size.{need, binary_need}
 use Rattle.c0_meaning.specs.Operators.{KernelFault, NullUse, Bounds, DivZero}
 use Rattle.c0_meaning.specs.TypeAt.{type_at}
 use Rattle.c0_expr_code.specs.Scope.{Scope}
-use Rattle.c0_expr_code.specs.Code.{element_words, length_in, AddressingMode, Made, constant_code, is_near, low, high, access_code, store_code, or_code, operand_code, operand_register, no_address, at_place, constant, only_value, global_address, local_address, register_made, register_of, variable_made, displaced, target_address, bound_code, shift_within, POWERS, scaled_code, scale_code, tested_address, element_address, to_code, two_code, one_code, logic_code, negated, negative_made, unary_made, operator_code, Immediate, when_near, equality_with, immediate, immediate_of, operator_made, sum_made, is_sure, divisor_code, division_made, binary_made, made}
+use Rattle.c0_expr_code.specs.Code.{element_words, length_in, AddressingMode, Made, constant_code, is_near, low, high, access_code, store_code, or_code, operand_code, operand_register, no_address, at_place, constant, only_value, global_address, local_address, register_made, register_of_variable, variable_made, displaced, target_address, bound_code, shift_within, POWERS, scaled_code, scale_code, tested_address, element_address, to_code, two_code, one_code, logic_code, negated, negative_made, unary_made, operator_code, Immediate, when_near, equality_with, immediate, immediate_of, operator_made, sum_made, is_never_zero, divisor_code, division_made, binary_made, made}
 use Rattle.c0_expr_code.specs.Test.{branch_code, negative_branch, positive_branch, below_code, compare_code, ImmediateTest, immediate_test, immediate_test_of, Testing, compare_test, both_code, binary_test, plain_test, test_code}
 use Rattle.c0_expr_code.proofs.EveryExpression.{need_some}
 
@@ -104,8 +104,8 @@ variables : (sc : Scope) (k : Kind) (n : ℕ) → Fine (variable_made sc k n) 1
 variables sc Global n = places (λ r. global_address sc n) 1 (omega arith) (λ r le. record { code = tt; base = omega arith })
 variables sc Local n = by_form sc.in_registers
   where
-    by_form : (b : Bool) → Fine (cond b (register_made (register_of n)) (at_place (λ r. local_address sc n))) 1
-    by_form true = record { some = omega arith; value = λ d r l le. ((l, omega arith, omega arith), tt); place = λ r le. no_place r; stands = λ q e. let z : register_of n ≡ q = cc in omega (arith, z) }
+    by_form : (b : Bool) → Fine (cond b (register_made (register_of_variable n)) (at_place (λ r. local_address sc n))) 1
+    by_form true = record { some = omega arith; value = λ d r l le. ((l, omega arith, omega arith), tt); place = λ r le. no_place r; stands = λ q e. let z : register_of_variable n ≡ q = cc in omega (arith, z) }
     by_form false = places (λ r. local_address sc n) 1 (omega arith) (λ r le. record { code = tt; base = omega arith })
 variables sc Unresolved n = places no_address 1 (omega arith) (λ r le. no_place r)
 variables sc Struct n = places no_address 1 (omega arith) (λ r le. no_place r)
@@ -217,8 +217,8 @@ module _ (sc : Scope) (exits : (f : KernelFault) → sc.exit f < 2 ^ 26) where
 
   divisions : (takes : ℕ → Inst) (a b : Made) (na nb : ℕ) → ((d : ℕ) → d < 32 → InRange (takes d)) → Fine a na → Fine b nb
       → Fine (division_made sc takes a b) (max na (nb + 1))
-  divisions takes a b na nb f h k = values (λ d r. two_code (λ q t. divisor_code sc (is_sure b.known) t ++ (Divide q t ∷ takes d ∷ [])) a b r) (max na (nb + 1)) (let s = h.some in omega (arith, s))
-      (λ d r l le. two_fine (λ q t. divisor_code sc (is_sure b.known) t ++ (Divide q t ∷ takes d ∷ [])) a b na nb r h k (omega (arith, le)) (omega (arith, le)) (λ q t lq lt. both (divisor_code sc (is_sure b.known) t) _ (divisor_fine (is_sure b.known) t lt) ((lq, lt), (f d l, tt))))
+  divisions takes a b na nb f h k = values (λ d r. two_code (λ q t. divisor_code sc (is_never_zero b.known) t ++ (Divide q t ∷ takes d ∷ [])) a b r) (max na (nb + 1)) (let s = h.some in omega (arith, s))
+      (λ d r l le. two_fine (λ q t. divisor_code sc (is_never_zero b.known) t ++ (Divide q t ∷ takes d ∷ [])) a b na nb r h k (omega (arith, le)) (omega (arith, le)) (λ q t lq lt. both (divisor_code sc (is_never_zero b.known) t) _ (divisor_fine (is_never_zero b.known) t lt) ((lq, lt), (f d l, tt))))
 
   logics : (skip : ℕ → ℕ → Inst) (a b : Made) (na nb : ℕ) → ((r k : ℕ) → r < 32 → k < 2 ^ 16 → InRange (skip r k)) → Fine a na → Fine b nb
       → Fine (only_value (λ d r. logic_code (λ k. skip r k) a b d r)) (max na nb)

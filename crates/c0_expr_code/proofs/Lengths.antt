@@ -13,7 +13,7 @@ use Rattle.c0_tree.specs.Size.{nodes}
 use Rattle.c0_meaning.specs.Operators.{NullUse, Bounds}
 use Rattle.c0_meaning.specs.TypeAt.{type_at}
 use Rattle.c0_expr_code.specs.Scope.{Scope}
-use Rattle.c0_expr_code.specs.Code.{element_words, length_in, AddressingMode, Made, constant_code, is_near, low, high, access_code, or_code, operand_code, operand_register, no_address, at_place, constant, only_value, global_address, local_address, register_made, register_of, variable_made, displaced, target_address, bound_code, shift_within, POWERS, scaled_code, scale_code, element_code, tested_address, element_address, to_code, two_code, one_code, logic_code, negated, negative_made, unary_made, operator_code, Immediate, when_near, equality_with, immediate, immediate_of, operator_made, sum_made, is_sure, divisor_code, division_made, binary_made, made}
+use Rattle.c0_expr_code.specs.Code.{element_words, length_in, AddressingMode, Made, constant_code, is_near, low, high, access_code, or_code, operand_code, operand_register, no_address, at_place, constant, only_value, global_address, local_address, register_made, register_of_variable, variable_made, displaced, target_address, bound_code, shift_within, POWERS, scaled_code, scale_code, element_code, tested_address, element_address, to_code, two_code, one_code, logic_code, negated, negative_made, unary_made, operator_code, Immediate, when_near, equality_with, immediate, immediate_of, operator_made, sum_made, is_never_zero, divisor_code, division_made, binary_made, made}
 
 cond_length : (b : Bool) (is js : List Inst) (n : ℕ) → length is ≤ n → length js ≤ n → length (cond b is js) ≤ n
 cond_length true is js n h g = h
@@ -109,7 +109,7 @@ variables : (sc : Scope) (k : Kind) (n : ℕ) → Short (variable_made sc k n) 1
 variables sc Global n = places (λ r. global_address sc n) 1 (λ r. omega arith)
 variables sc Local n = by_form sc.in_registers
   where
-    by_form : (b : Bool) → Short (cond b (register_made (register_of n)) (at_place (λ r. local_address sc n))) 1
+    by_form : (b : Bool) → Short (cond b (register_made (register_of_variable n)) (at_place (λ r. local_address sc n))) 1
     by_form true = record { value = λ d r. omega arith; place = λ r. omega arith }
     by_form false = places (λ r. local_address sc n) 1 (λ r. omega arith)
 variables sc Unresolved n = places no_address 1 (λ r. omega arith)
@@ -204,8 +204,8 @@ module _ (sc : Scope) where
   divisor_length false t = omega arith
 
   divisions : (takes : ℕ → Inst) (a b : Made) (j k : ℕ) → Short a j → Short b k → Short (division_made sc takes a b) (j + k + 1)
-  divisions takes a b j k h x = values (λ d r. two_code (λ q t. divisor_code sc (is_sure b.known) t ++ (Divide q t ∷ takes d ∷ [])) a b r) (j + k + 1) (omega arith)
-      (λ d r. two_length (λ q t. divisor_code sc (is_sure b.known) t ++ (Divide q t ∷ takes d ∷ [])) a b j k r (λ q t. let y = divisor_length (is_sure b.known) t in let z = length-append (divisor_code sc (is_sure b.known) t) (Divide q t ∷ takes d ∷ []) in omega (arith, y, z)) h x)
+  divisions takes a b j k h x = values (λ d r. two_code (λ q t. divisor_code sc (is_never_zero b.known) t ++ (Divide q t ∷ takes d ∷ [])) a b r) (j + k + 1) (omega arith)
+      (λ d r. two_length (λ q t. divisor_code sc (is_never_zero b.known) t ++ (Divide q t ∷ takes d ∷ [])) a b j k r (λ q t. let y = divisor_length (is_never_zero b.known) t in let z = length-append (divisor_code sc (is_never_zero b.known) t) (Divide q t ∷ takes d ∷ []) in omega (arith, y, z)) h x)
 
   binaries : (o : BinaryOp) (a b : Made) (j k : ℕ) → Short a j → Short b k → Short (binary_made sc o a b) (j + k + 1)
   binaries And a b j k h g = values (λ d r. logic_code (λ z. Beq r 0 z) a b d r) (j + k + 1) (omega arith) (λ d r. logic_length (λ z. Beq r 0 z) a b j k d r h g)

@@ -14,7 +14,7 @@ use Rattle.c0_meaning.specs.Ty.{Ty}
 use Rattle.c0_meaning.specs.Ty as ty
 use Rattle.c0_meaning.specs.Env.{Env, Typed}
 use Rattle.c0_meaning.specs.Expression.{target}
-use Rattle.c0_meaning.specs.Judgement.{IsArithmetic, add, sub, mul, div, rem, IsOrder, lt, le, gt, ge, IsEquality, eq, ne, IsLogical, and, or}
+use Rattle.c0_meaning.specs.Judgement.{IsArithmetic, add, sub, mul, div, rem, IsOrdering, lt, le, gt, ge, IsEquality, eq, ne, IsLogical, and, or}
 use Rattle.c0_meaning.specs.Numbered.{HasNumberedType, a_number, a_true, a_false, a_variable, a_field, a_target_field, an_element, a_target, an_address, a_negative, a_negation, arithmetic, order, logic, equality, null_left, null_right}
 use Rattle.c0_meaning.specs.TypeAt.{field_type, element, binary_type, type_at}
 use Rattle.c0_meaning.specs.TypedState.{Fits}
@@ -25,8 +25,8 @@ use Rattle.c0_meaning.specs.Operators.{on_unary}
 use Rattle.c0_meaning.specs.Evaluation.{Costed, costs, at_no_cost, paying, ◌>>=◌, value_of}
 use Rattle.cvm_words.specs.Words.{word_of}
 use Rattle.c0_expr_code.specs.Scope.{Scope}
-use Rattle.c0_expr_code.specs.Code.{Made, at_place, register_made, register_of, local_address, variable_made, negated, negative_made, Immediate, immediate_of, operator_made, sum_made, binary_made, made}
-use Rattle.c0_expr_code.specs.Bases.{Bases, word}
+use Rattle.c0_expr_code.specs.Code.{Made, at_place, register_made, register_of_variable, local_address, variable_made, negated, negative_made, Immediate, immediate_of, operator_made, sum_made, binary_made, made}
+use Rattle.c0_expr_code.specs.Bases.{Bases, word_of_scalar}
 use Rattle.c0_expr_code.specs.Relation.{layout}
 use Rattle.c0_expr_code.proofs.Words.{word_pos, word_negative}
 
@@ -37,7 +37,7 @@ arithmetic_gives _ mul = refl
 arithmetic_gives _ div = refl
 arithmetic_gives _ rem = refl
 
-order_gives : (o : BinaryOp) → IsOrder o → binary_type o ≡ ty.bool
+order_gives : (o : BinaryOp) → IsOrdering o → binary_type o ≡ ty.bool
 order_gives _ lt = refl
 order_gives _ le = refl
 order_gives _ gt = refl
@@ -107,7 +107,7 @@ module _ (sc : Scope) where
   variable_not_constant Global n = record { literal = refl; known = refl }
   variable_not_constant Local n = by_form sc.in_registers
     where
-      by_form : (b : Bool) → IsNotConstant (cond b (register_made (register_of n)) (at_place (λ r. local_address sc n)))
+      by_form : (b : Bool) → IsNotConstant (cond b (register_made (register_of_variable n)) (at_place (λ r. local_address sc n)))
       by_form true = record { literal = refl; known = refl }
       by_form false = record { literal = refl; known = refl }
   variable_not_constant Unresolved n = record { literal = refl; known = refl }
@@ -157,7 +157,7 @@ module _ (sc : Scope) where
       pub is : y ≡ costs units (Ok value)
       pub some : 1 ≤ units
       pub fits : Fits sc.env.structs (layout sc p) t value
-      pub word_is : word sc p value ≡ k
+      pub word_is : word_of_scalar sc p value ≡ k
 
     negative_word : (n : ℕ) → FitsSigned w32 (pos n) → word_of (int_wrap w32 (neg_ℤ (pos n))) ≡ negated n
     negative_word n h = sym (word_negative (pos n) h) ∙ ap (λ y. (0 + (2 ^ 32 - y)) % 2 ^ 32) (word_pos n h) ∙ omega arith

@@ -1,5 +1,5 @@
 -- The other nodes: constants, variables in registers, targets of pointers, fields, elements, operators.
-use Rattle.std.specs.Prelude.{Ok, ok_or, bit_or, slice_get}
+use Rattle.std.specs.Prelude.{Ok, ok_or, bit_or, slice_get, IsTrue}
 use Rattle.std.proofs.Common.{◌≡◌, ◌≢◌, inl, inr, ◌⊎◌, ℕ, ◌+◌, ◌-◌, ◌*◌, ◌/◌, ◌%◌, ◌^◌, ◌<◌, ◌≤◌, Bool, true, false, not, cond, nat_eq, nat_lt, Some, List, [], ◌∷◌, length, refl, sym, ap, ◌∙◌, subst, arith, eq-eqb, ne_eqb}
 use Rattle.std.proofs.lemmas.Bool.{cases_Bool, eqb-true, cond-true, cond-false}
 use Rattle.mips_table.specs.declared.inst.Inst.TheVariants.{J, Bne, Addu, Addiu, Lui, Ori}
@@ -17,20 +17,20 @@ use Rattle.c0_meaning.specs.Evaluation.{Costed, at_no_cost, paying, pointed_to, 
 use Rattle.c0_meaning.specs.TypedState.{types_of, LeadsFrom, PointsTo, Fits, PathLeads}
 use Rattle.c0_expr_code.proofs.Paths.{leads_from_on, points_on}
 use Rattle.masm.specs.Says.{Gives as Becomes}
-use Rattle.c0_expr_code.proofs.Machine.{Machine, joined, later, stays, said_step, differ_goes}
+use Rattle.c0_expr_code.proofs.CodeRuns.{Machine, joined, later, stays, said_step, differ_goes}
 use Rattle.c0_expr_code.specs.Scope.{Scope}
-use Rattle.c0_expr_code.specs.Bases.{Bases, types_in, location_word, word, RegionHeld}
+use Rattle.c0_expr_code.specs.Bases.{Bases, types_in, location_word, word_of_scalar, LocalsHeld}
 use Rattle.c0_meaning.specs.Sizes.{words_before}
 use Rattle.c0_meaning.specs.Addresses.{words_to, words_to_part}
 use Rattle.c0_expr_code.specs.Code.{constant_code, is_near, low}
 use Rattle.c0_expr_code.specs.Relation.{layout, StateIsTyped, Ready, KeepsRegisters, Area, Evaluates, HoldsValue, HoldsAddress}
 use Rattle.c0_expr_code.proofs.Words.{halves, word_below, near_is, extended_small}
-use Rattle.c0_expr_code.proofs.Offsets.{offset_from_on, field_offset, before_scalars, room_from, region_seen, scalar_held}
-use Rattle.c0_expr_code.proofs.Steps.{same_read, other_read, keeps_all, keeps_on, keeps_put, keeps_low, ready_on, more, node, binds, arrives, faults, jumps}
+use Rattle.c0_expr_code.proofs.Offsets.{one_word, offset_from_on, field_offset, before_scalars, room_from, region_seen, scalar_held}
+use Rattle.c0_expr_code.proofs.SideBySide.{same_read, other_read, keeps_all, keeps_on, keeps_put, keeps_low, ready_on, more, node, binds, arrives, faults, jumps}
 use Rattle.c0_expr_code.proofs.AddressingModes.{found}
 use Rattle.c0_meaning.specs.Ty as ty
 
-module _ (w : World) (sc : Scope) (p : Bases) (s : C0State) (f : Machine w) (area : Area w sc p) (is_typed : StateIsTyped sc p s) where
+module _ (w : World) (sc : Scope) (p : Bases) (live : ℕ → Bool) (s : C0State) (f : Machine w) (area : Area w sc p) (is_typed : StateIsTyped sc p s) where
   -- a constant is in a register
   pub constant_runs : (d r v n : ℕ) (c : Contents) (k : Behind) → v < 2 ^ 32 → k.pending ≡ Idle → d ≢ 0 → CodeAt w n (constant_code d v)
       → (b : Contents) × (reg b.regs d ≡ v) × KeepsRegisters r d c b × ((x : ℕ) → x ≢ d → reg b.regs x ≡ reg c.regs x) × Reaches w 2 (at_with n c k) (at_with (n + length (constant_code d v)) b k)
@@ -66,7 +66,7 @@ module _ (w : World) (sc : Scope) (p : Bases) (s : C0State) (f : Machine w) (are
           (with_reg c1 d v, same_read c1.regs d v nz, keeps_on r d c c1 (with_reg c1 d v) (keeps_put r d _ c) (keeps_put r d v c1), (λ x ne. other_read c1.regs d v x ne ∙ other_read c.regs d (v / 2 ^ 16 * 2 ^ 16) x ne), subst (λ t. Reaches w 2 (at_with n c k) (at_with t (with_reg c1 d v) k)) len (joined w 1 1 _ _ _ one two))
 
   pub constant_gives : (d r n v : ℕ) (t : Ty) (x : Value) (c : Contents) (k : Behind) → v < 2 ^ 32 → k.pending ≡ Idle → d ≢ 0
-      → CodeAt w n (constant_code d v) → v ≡ word sc p x → Fits sc.env.structs (layout sc p) t x
+      → CodeAt w n (constant_code d v) → v ≡ word_of_scalar sc p x → Fits sc.env.structs (layout sc p) t x
       → Evaluates w sc 0 n (n + length (constant_code d v)) c k (HoldsValue sc p d r d t c) (paying 1 (at_no_cost (Ok x)))
   constant_gives d r n v t x c k small idle nz code e fits =
       let a = constant_runs d r v n c k small idle nz code in
@@ -74,7 +74,7 @@ module _ (w : World) (sc : Scope) (p : Bases) (s : C0State) (f : Machine w) (are
       (arrives w sc 2 n _ c a.0 k (HoldsValue sc p d r d t c) x (record { is = a.1 ∙ e; fits = fits; keeps = a.2 }) a.4)
 
   -- a value that is in register 0 already
-  pub nothing_gives : (r n : ℕ) (t : Ty) (x : Value) (c : Contents) (k : Behind) → 0 ≡ word sc p x → Fits sc.env.structs (layout sc p) t x
+  pub nothing_gives : (r n : ℕ) (t : Ty) (x : Value) (c : Contents) (k : Behind) → 0 ≡ word_of_scalar sc p x → Fits sc.env.structs (layout sc p) t x
       → Evaluates w sc 0 n (n + 0) c k (HoldsValue sc p 0 r r t c) (paying 1 (at_no_cost (Ok x)))
   nothing_gives r n t x c k e fits =
       node w sc 0 n (n + 0) c k (HoldsValue sc p 0 r r t c) (at_no_cost (Ok x)) (omega arith)
@@ -82,27 +82,30 @@ module _ (w : World) (sc : Scope) (p : Bases) (s : C0State) (f : Machine w) (are
 
   -- a variable in a register
   in_register : (form : Bool) → form ≡ true → (x : ℕ) (t : Ty) (c : Contents) → slice_get (types_of sc.env.locals) x ≡ Some t
-      → words_before sc.env.structs (types_of sc.env.locals) x ≡ x → is_scalar t ≡ true →
-      RegionHeld sc p (cond form c.regs c.memory) (cond form 20 (p.frame_end - sc.frame + 3)) (types_of sc.env.locals) (variables_of s.frames) →
-      (v : Value) × (read s (record { region = locals; path = x ∷ [] }) ≡ Some v) × Fits sc.env.structs (layout sc p) t v × (c.regs (20 + x) ≡ word sc p v)
-  in_register true e x t c h b scalar g =
-      let r = region_seen sc p c.regs (types_of sc.env.locals) (x ∷ []) t (variables_of s.frames) 20 (t, h, refl) is_typed.local_values g in
+      → words_before sc.env.structs (types_of sc.env.locals) x ≡ x → is_scalar t ≡ true → IsTrue (live x) →
+      LocalsHeld sc p live (cond form c.regs c.memory) (cond form 20 (p.frame_end - sc.frame + 3)) (types_of sc.env.locals) (variables_of s.frames) →
+      (v : Value) × (read s (record { region = locals; path = x ∷ [] }) ≡ Some v) × Fits sc.env.structs (layout sc p) t v × (c.regs (20 + x) ≡ word_of_scalar sc p v)
+  in_register true e x t c h b scalar is_live g =
+      let r = region_seen sc p g.whole (types_of sc.env.locals) (x ∷ []) t (variables_of s.frames) 20 (t, h, refl) is_typed.local_values g.held in
       let here : 20 + words_to_part sc.env.structs (types_of sc.env.locals) (x ∷ []) ≡ 20 + x = omega (arith, b) in
-      (r.value, r.is, r.fits, ap c.regs (sym here) ∙ scalar_held sc p c.regs t r.value _ scalar r.held)
-  in_register false e x t c h b scalar g = absurd (cc)
+      let one = one_word sc.env.structs t scalar in
+      let at : 20 + words_before sc.env.structs (types_of sc.env.locals) x + 0 ≡ 20 + x = omega (arith, b) in
+      let same : c.regs (20 + x) ≡ g.whole (20 + x) = ap c.regs (sym at) ∙ g.same x t h is_live 0 (omega (arith, one)) ∙ ap g.whole at in
+      (r.value, r.is, r.fits, same ∙ ap g.whole (sym here) ∙ scalar_held sc p g.whole t r.value _ scalar r.held)
+  in_register false e x t c h b scalar is_live g = absurd (cc)
 
-  pub register_holds : sc.in_registers ≡ true → (x : ℕ) (t : Ty) (c : Contents) → Ready sc p s c → slice_get (types_of sc.env.locals) x ≡ Some t
-      → (v : Value) × (read s (record { region = locals; path = x ∷ [] }) ≡ Some v) × Fits sc.env.structs (layout sc p) t v × (reg c.regs (20 + x) ≡ word sc p v)
-  register_holds form x t c ready h =
+  pub register_holds : sc.in_registers ≡ true → (x : ℕ) (t : Ty) (c : Contents) → Ready sc p live s c → slice_get (types_of sc.env.locals) x ≡ Some t → IsTrue (live x)
+      → (v : Value) × (read s (record { region = locals; path = x ∷ [] }) ≡ Some v) × Fits sc.env.structs (layout sc p) t v × (reg c.regs (20 + x) ≡ word_of_scalar sc p v)
+  register_holds form x t c ready h is_live =
       let b = before_scalars sc.env.structs (types_of sc.env.locals) x t (λ n u q. (area.scalars form n u q).0) h in
-      let r = in_register sc.in_registers form x t c h b (area.scalars form x t h).0 ready.local_values in
+      let r = in_register sc.in_registers form x t c h b (area.scalars form x t h).0 is_live ready.local_values in
       (r.0, r.1, r.2, cond-false (nat_eq (20 + x) 0) 0 (c.regs (20 + x)) (ne_eqb (20 + x) 0 (λ e. absurd (omega (arith, e)))) ∙ r.3)
 
-  pub register_operand : sc.in_registers ≡ true → (x r n : ℕ) (t : Ty) (c : Contents) (k : Behind) → Ready sc p s c
-      → slice_get (types_of sc.env.locals) x ≡ Some t
+  pub register_operand : sc.in_registers ≡ true → (x r n : ℕ) (t : Ty) (c : Contents) (k : Behind) → Ready sc p live s c
+      → slice_get (types_of sc.env.locals) x ≡ Some t → IsTrue (live x)
       → Evaluates w sc 0 n (n + 0) c k (HoldsValue sc p (20 + x) r r t c) (paying 1 (load_from s (at_no_cost (Ok (record { region = locals; path = x ∷ [] })))))
-  register_operand form x r n t c k ready h =
-      let g = register_holds form x t c ready h in
+  register_operand form x r n t c k ready h is_live =
+      let g = register_holds form x t c ready h is_live in
       node w sc 0 n (n + 0) c k (HoldsValue sc p (20 + x) r r t c) (load_from s (at_no_cost (Ok (record { region = locals; path = x ∷ [] })))) (omega arith)
       (subst (λ o. Evaluates w sc 0 n (n + 0) c k (HoldsValue sc p (20 + x) r r t c) (paying 0 (at_no_cost (ok_or o stuck)))) (sym g.1)
       (arrives w sc 0 n (n + 0) c c k (HoldsValue sc p (20 + x) r r t c) g.0 (record { is = g.3; fits = g.2; keeps = keeps_all r r c }) (stays w _ _ (ap (λ m. at_with m c k) (omega arith)))))
@@ -118,7 +121,7 @@ module _ (w : World) (sc : Scope) (p : Bases) (s : C0State) (f : Machine w) (are
   address_small heap path t h = let r = room_from sc.env.structs area.opened p.objects path t h in let a = area.heap_room in let small = f.sound.small in omega (arith, r, a, small)
   address_small locals path t h = absurd h
 
-  pub word_small : (v : Value) (t : Ty) → Fits sc.env.structs (layout sc p) t v → is_scalar t ≡ true → word sc p v < 2 ^ 32
+  pub word_small : (v : Value) (t : Ty) → Fits sc.env.structs (layout sc p) t v → is_scalar t ≡ true → word_of_scalar sc p v < 2 ^ 32
   word_small (int z) ty.int h e = word_below z h
   word_small (bool b) ty.bool h e = flag_small b
   word_small null (ty.pointer t) h e = omega arith
@@ -127,17 +130,17 @@ module _ (w : World) (sc : Scope) (p : Bases) (s : C0State) (f : Machine w) (are
   word_small v (ty.array t n) h e = absurd (cc)
   word_small _ _ h e = absurd h
 
-  pub register_value : sc.in_registers ≡ true → (x d r n : ℕ) (t : Ty) (c : Contents) (k : Behind) → k.pending ≡ Idle → d ≢ 0 → Ready sc p s c
-      → slice_get (types_of sc.env.locals) x ≡ Some t → CodeAt w n (Addu d (20 + x) 0 ∷ [])
+  pub register_value : sc.in_registers ≡ true → (x d r n : ℕ) (t : Ty) (c : Contents) (k : Behind) → k.pending ≡ Idle → d ≢ 0 → Ready sc p live s c
+      → slice_get (types_of sc.env.locals) x ≡ Some t → IsTrue (live x) → CodeAt w n (Addu d (20 + x) 0 ∷ [])
       → Evaluates w sc 0 n (n + 1) c k (HoldsValue sc p d r d t c) (paying 1 (load_from s (at_no_cost (Ok (record { region = locals; path = x ∷ [] })))))
-  register_value form x d r n t c k idle nz ready h code =
-      let g = register_holds form x t c ready h in
+  register_value form x d r n t c k idle nz ready h is_live code =
+      let g = register_holds form x t c ready h is_live in
       let small = word_small g.0 t g.2 (area.scalars form x t h).0 in
-      let add : sum (reg c.regs (20 + x)) 0 ≡ word sc p g.0 = omega (arith, g.3, small) in
-      let one = said_step w f (Addu d (20 + x) 0) (Becomes (word sc p g.0)) n c k code.0 refl idle add in
+      let add : sum (reg c.regs (20 + x)) 0 ≡ word_of_scalar sc p g.0 = omega (arith, g.3, small) in
+      let one = said_step w f (Addu d (20 + x) 0) (Becomes (word_of_scalar sc p g.0)) n c k code.0 refl idle add in
       node w sc 1 n (n + 1) c k (HoldsValue sc p d r d t c) (load_from s (at_no_cost (Ok (record { region = locals; path = x ∷ [] })))) (omega arith)
       (subst (λ o. Evaluates w sc 1 n (n + 1) c k (HoldsValue sc p d r d t c) (paying 0 (at_no_cost (ok_or o stuck)))) (sym g.1)
-      (arrives w sc 1 n (n + 1) c (with_reg c d (word sc p g.0)) k (HoldsValue sc p d r d t c) g.0 (record { is = same_read c.regs d (word sc p g.0) nz; fits = g.2; keeps = keeps_put r d (word sc p g.0) c }) one))
+      (arrives w sc 1 n (n + 1) c (with_reg c d (word_of_scalar sc p g.0)) k (HoldsValue sc p d r d t c) g.0 (record { is = same_read c.regs d (word_of_scalar sc p g.0) nz; fits = g.2; keeps = keeps_put r d (word_of_scalar sc p g.0) c }) one))
 
   -- a branch over one instruction
   pub skips : (n a b : ℕ) (c : Contents) (k : Behind) → k.pending ≡ Idle → w.code n ≡ Some (Bne a b 1) → reg c.regs a ≢ reg c.regs b
@@ -205,7 +208,7 @@ module _ (w : World) (sc : Scope) (p : Bases) (s : C0State) (f : Machine w) (are
       }
 
   pub fields : (x : List ℕ) (i : CName) (b m r from n : ℕ) (k : ℕ) (local : Bool) (t : Ty) (c : Contents) (d : Behind) (e : Costed Location) → r < 20
-      → Ready sc p s c → slice_get (types_of (fields_named sc.env.structs x)) i.number ≡ Some t
+      → Ready sc p live s c → slice_get (types_of (fields_named sc.env.structs x)) i.number ≡ Some t
       → Evaluates w sc m from n c d (HoldsAddress sc p b k r local (ty.named x) c) e →
       Evaluates w sc m from n c d (HoldsAddress sc p b ((k + 4 * words_before sc.env.structs (types_of (fields_named sc.env.structs x)) i.number) % 2 ^ 32) r local t c) (field_of i e)
   fields x i b m r from n k local t c d e hi ready h g =
@@ -215,6 +218,6 @@ module _ (w : World) (sc : Scope) (p : Bases) (s : C0State) (f : Machine w) (are
       (λ l a q.
       let path : PathLeads sc.env.structs (ty.named x) (i.number ∷ []) t = (t, h, refl) in
       let leads = leads_from_on sc.env.structs (types_in sc p l.region) l.path (ty.named x) i.number t q.leads path in
-      let there = found w sc p s f area is_typed a (below l i.number) t (ready_on sc p s c a (keeps_low r r c a hi q.keeps) ready) leads q.standing in
+      let there = found w sc p live s f area is_typed a (below l i.number) t (ready_on sc p live s c a (keeps_low r r c a hi q.keeps) ready) leads q.standing in
       arrives w sc 0 n n a a d (HoldsAddress sc p b ((k + 4 * words_before sc.env.structs (types_of (fields_named sc.env.structs x)) i.number) % 2 ^ 32) r local t c) (below l i.number)
       (part_leads b k (words_before sc.env.structs (types_of (fields_named sc.env.structs x)) i.number) r i.number local (ty.named x) t c a l path (field_offset sc.env.structs x i.number t h) there.inside q) (stays w _ _ refl)))

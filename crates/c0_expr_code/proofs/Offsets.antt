@@ -8,7 +8,7 @@ use Rattle.c0_meaning.specs.Value.{Value, int, bool, null, at, group, Values, em
 use Rattle.c0_meaning.specs.TypedState.{types_of, LeadsFrom, Fits, AllFit, AreParts, PathLeads}
 use Rattle.c0_expr_code.proofs.Paths.{there}
 use Rattle.c0_expr_code.specs.Scope.{Scope}
-use Rattle.c0_expr_code.specs.Bases.{Bases, words_of_all, word, Held, AllHeld, RegionHeld}
+use Rattle.c0_expr_code.specs.Bases.{Bases, words_of_all, word_of_scalar, Held, AllHeld, RegionHeld}
 use Rattle.c0_meaning.specs.Sizes.{words_before}
 use Rattle.c0_meaning.specs.Addresses.{words_to, words_to_part}
 use Rattle.c0_expr_code.specs.Relation.{layout}
@@ -156,34 +156,9 @@ module _ (sc : Scope) (p : Bases) (m : ℕ → ℕ) where
   region_seen types (i ∷ path) u null a l f h = absurd f
   region_seen types (i ∷ path) u (at x) a l f h = absurd f
 
-  pub scalar_held : (t : Ty) (v : Value) (a : ℕ) → is_scalar t ≡ true → Held sc p m a t v → m a ≡ word sc p v
+  pub scalar_held : (t : Ty) (v : Value) (a : ℕ) → is_scalar t ≡ true → Held sc p m a t v → m a ≡ word_of_scalar sc p v
   scalar_held ty.int v a s h = h
   scalar_held ty.bool v a s h = h
   scalar_held (ty.pointer t) v a s h = h
   scalar_held (ty.named x) v a s h = absurd (cc)
   scalar_held (ty.array t n) v a s h = absurd (cc)
-
--- values stand where the words are the same
-module _ (sc : Scope) (p : Bases) (m m' : ℕ → ℕ) where
-  mutual
-    pub held_from : (a : ℕ) (t : Ty) (v : Value) → ((x : ℕ) → a ≤ x → m' x ≡ m x) → Held sc p m a t v → Held sc p m' a t v
-    held_from a (ty.named x) (group vs) e h = all_held_from a (types_of (fields_named sc.env.structs x)) vs e h
-    held_from a (ty.array t n) (group vs) e h = all_held_from a (replicate n t) vs e h
-    held_from a ty.int v e h = e a (omega arith) ∙ h
-    held_from a ty.bool v e h = e a (omega arith) ∙ h
-    held_from a (ty.pointer t) v e h = e a (omega arith) ∙ h
-    held_from a (ty.named x) _ e h = absurd h
-    held_from a (ty.array t n) _ e h = absurd h
-
-    pub all_held_from : (a : ℕ) (ts : List Ty) (vs : Values) → ((x : ℕ) → a ≤ x → m' x ≡ m x) → AllHeld sc p m a ts vs → AllHeld sc p m' a ts vs
-    all_held_from a [] empty e h = tt
-    all_held_from a (t ∷ ts) (part v vs) e h = (held_from a t v e h.0, all_held_from (a + words sc.env.structs t) ts vs (λ x le. e x (omega arith)) h.1)
-    all_held_from a [] (part v vs) e h = absurd h
-    all_held_from a (t ∷ ts) empty e h = absurd h
-
-  pub region_from : (a : ℕ) (ts : List Ty) (v : Value) → ((x : ℕ) → a ≤ x → m' x ≡ m x) → RegionHeld sc p m a ts v → RegionHeld sc p m' a ts v
-  region_from a ts (group vs) e h = all_held_from a ts vs e h
-  region_from a ts (int z) e h = absurd h
-  region_from a ts (bool b) e h = absurd h
-  region_from a ts null e h = absurd h
-  region_from a ts (at l) e h = absurd h

@@ -16,21 +16,21 @@ use Rattle.c0_tree.specs.declared.tree.UnaryOp.TheVariants.{Negate, Not}
 use Rattle.c0_tree.specs.declared.tree.BinaryOp.{BinaryOp}
 use Rattle.c0_tree.specs.declared.tree.BinaryOp.TheVariants.{Add, Sub, Lt, Le, Gt, Ge, Mul, Div, Rem}
 use Rattle.c0_meaning.specs.Ty.{Ty, is_scalar}
-use Rattle.c0_meaning.specs.Judgement.{IsOrder, lt, le, gt, ge, IsEquality, eq, ne}
+use Rattle.c0_meaning.specs.Judgement.{IsOrdering, lt, le, gt, ge, IsEquality, eq, ne}
 use Rattle.c0_meaning.specs.Value.{Region, globals, heap, locals, Location, Value, int, bool, null, at, group}
 use Rattle.c0_meaning.specs.State.{C0State}
 use Rattle.c0_meaning.specs.Operators.{Failure, same_region, same, on_unary, on_binary, faulted, stuck, divided, DivZero}
 use Rattle.c0_meaning.specs.Evaluation.{Costed, at_no_cost, paying, ◌>>=◌, truth, bool_of, costs}
 use Rattle.c0_meaning.specs.TypedState.{Fits, PointsTo}
 use Rattle.masm.specs.Says.{Gives as Becomes, Widens}
-use Rattle.c0_expr_code.proofs.Machine.{Machine, joined, later, stays, code_front, code_back, said_step, differ_goes, taken, passed}
+use Rattle.c0_expr_code.proofs.CodeRuns.{Machine, joined, later, stays, code_front, code_back, said_step, differ_goes, taken, passed}
 use Rattle.cvm_words.specs.Words.{word_of, quotient, remainder}
 use Rattle.c0_expr_code.specs.Scope.{Scope}
-use Rattle.c0_expr_code.specs.Bases.{Bases, location_word, word}
+use Rattle.c0_expr_code.specs.Bases.{Bases, location_word, word_of_scalar}
 use Rattle.c0_expr_code.specs.Code.{Made, operand_code, operand_register, two_code, one_code, to_code, logic_code, operator_code, divisor_code}
 use Rattle.c0_expr_code.specs.Relation.{layout, StateIsTyped, Ready, KeepsRegisters, Area, Evaluates, HoldsValue, ValueRuns, OperandRuns}
 use Rattle.c0_expr_code.proofs.Words.{plain, word_sum, word_difference, word_negative, word_less, xor_tests, xor_differs, int_words, bool_words, not_flag, not_less}
-use Rattle.c0_expr_code.proofs.Steps.{same_read, keeps_all, keeps_on, keeps_in, keeps_put, keeps_low, ready_on, source_kept, node, after, binds, says, onward, ends_at, arrives, other_reg, faults, jumps}
+use Rattle.c0_expr_code.proofs.SideBySide.{same_read, keeps_all, keeps_on, keeps_in, keeps_put, keeps_low, ready_on, source_kept, node, after, binds, says, onward, ends_at, arrives, other_reg, faults, jumps}
 use Rattle.c0_expr_code.proofs.Nodes.{word_small, pointer_room, skips, falls}
 use Rattle.c0_meaning.specs.Ty as ty
 use Rattle.std.proofs.Math.Nat.{div-le_self}
@@ -71,11 +71,11 @@ not_zero : (y : ℤ) → FitsSigned w32 y → 0 < unsigned_abs y → word_of y �
 not_zero (pos n) f some e = absurd (omega (arith, ints, some, e))
 not_zero (negsuc n) f some e = let g = f.sfits in absurd (omega (arith, ints, g, e))
 
-module _ (w : World) (sc : Scope) (p : Bases) (s : C0State) (f : Machine w) (area : Area w sc p) (is_typed : StateIsTyped sc p s) where
+module _ (w : World) (sc : Scope) (p : Bases) (live : ℕ → Bool) (s : C0State) (f : Machine w) (area : Area w sc p) (is_typed : StateIsTyped sc p s) where
   -- what an operator's own code does, from a state in which both sides are in registers
   abbrev pub FinishesFor : (Value → Type 0) → (ℕ → ℕ → List Inst) → ℕ → ℕ → Ty → Ty → Ty → (Value → Value → Result Value Failure) → Type 0
   FinishesFor P code d r t u z on = (x y : Value) → P y → (q g n : ℕ) (a : Contents) (k : Behind) → k.pending ≡ Idle
-      → Fits sc.env.structs (layout sc p) t x → Fits sc.env.structs (layout sc p) u y → reg a.regs q ≡ word sc p x → reg a.regs g ≡ word sc p y
+      → Fits sc.env.structs (layout sc p) t x → Fits sc.env.structs (layout sc p) u y → reg a.regs q ≡ word_of_scalar sc p x → reg a.regs g ≡ word_of_scalar sc p y
       → CodeAt w n (code q g) →
       Evaluates w sc 5 n (n + length (code q g)) a k (HoldsValue sc p d r d z a) (at_no_cost (on x y))
 
@@ -83,8 +83,8 @@ module _ (w : World) (sc : Scope) (p : Bases) (s : C0State) (f : Machine w) (are
   Finishes code d r t u z on = FinishesFor (λ y. Unit {0}) code d r t u z on
 
   -- both sides, and then the operator
-  pub twos : (P : Value → Type 0) (code : ℕ → ℕ → List Inst) (ma mb : Made) (na nb : ℕ) (on : Value → Value → Result Value Failure) (t u z : Ty) (d r n : ℕ) (c : Contents) (k : Behind) (x y : Costed Value) → k.pending ≡ Idle → 8 ≤ r → r + na ≤ 20 → r + (nb + 1) ≤ 20 → 1 ≤ nb → Ready sc p s c → CodeAt w n (two_code code ma mb r) →
-      OperandRuns w sc p s ma na t x → OperandRuns w sc p s mb nb u y → Answers P y → FinishesFor P code d r t u z on → Evaluates w sc 0 n (n + length (two_code code ma mb r)) c k (HoldsValue sc p d r d z c) (paying 1 (x >>= λ v. y >>= λ w. at_no_cost (on v w)))
+  pub twos : (P : Value → Type 0) (code : ℕ → ℕ → List Inst) (ma mb : Made) (na nb : ℕ) (on : Value → Value → Result Value Failure) (t u z : Ty) (d r n : ℕ) (c : Contents) (k : Behind) (x y : Costed Value) → k.pending ≡ Idle → 8 ≤ r → r + na ≤ 20 → r + (nb + 1) ≤ 20 → 1 ≤ nb → Ready sc p live s c → CodeAt w n (two_code code ma mb r) →
+      OperandRuns w sc p live s ma na t x → OperandRuns w sc p live s mb nb u y → Answers P y → FinishesFor P code d r t u z on → Evaluates w sc 0 n (n + length (two_code code ma mb r)) c k (HoldsValue sc p d r d z c) (paying 1 (x >>= λ v. y >>= λ w. at_no_cost (on v w)))
   twos P code ma mb na nb on t u z d r n c k x y idle lo ha hb some ready there oa ob answers finish =
       let qa = operand_register ma r in
       let qb = operand_register mb (r + 1) in
@@ -100,7 +100,7 @@ module _ (w : World) (sc : Scope) (p : Bases) (s : C0State) (f : Machine w) (are
       (binds w sc 0 5 n (n + length (operand_code ma r)) (n + length (two_code code ma mb r)) c k (HoldsValue sc p (operand_register ma r) r r t c) (HoldsValue sc p d r d z c) x _ a.1
       (λ v b g. keeps_low r r c b (omega arith) g.keeps)
       (λ v b g.
-      let ready_b = ready_on sc p s c b (keeps_low r r c b (omega arith) g.keeps) ready in
+      let ready_b = ready_on sc p live s c b (keeps_low r r c b (omega arith) g.keeps) ready in
       let o = ob (r + 1) (n + length (operand_code ma r)) b k idle ready_b (code_front w _ (operand_code mb (r + 1)) (code (operand_register ma r) (operand_register mb (r + 1))) rest) (omega arith) (omega arith) in
       binds w sc 0 5 (n + length (operand_code ma r)) (n + length (operand_code ma r) + length (operand_code mb (r + 1))) (n + length (two_code code ma mb r)) b k (λ v c'. P v × HoldsValue sc p (operand_register mb (r + 1)) (r + 1) (r + 1) u b v c') (HoldsValue sc p d r d z c) y _ (answered w sc 0 _ _ b k (HoldsValue sc p (operand_register mb (r + 1)) (r + 1) (r + 1) u b) P y answers o.1)
       (λ e i h. keeps_low (r + 1) (r + 1) b i (omega arith) h.1.keeps)
@@ -112,10 +112,10 @@ module _ (w : World) (sc : Scope) (p : Bases) (s : C0State) (f : Machine w) (are
 
   abbrev pub FinishesOne : (ℕ → List Inst) → ℕ → ℕ → Ty → Ty → (Value → Result Value Failure) → Type 0
   FinishesOne code d r t z on = (x : Value) (q n : ℕ) (a : Contents) (k : Behind) → k.pending ≡ Idle → Fits sc.env.structs (layout sc p) t x
-      → reg a.regs q ≡ word sc p x → CodeAt w n (code q) → Evaluates w sc 5 n (n + length (code q)) a k (HoldsValue sc p d r d z a) (at_no_cost (on x))
+      → reg a.regs q ≡ word_of_scalar sc p x → CodeAt w n (code q) → Evaluates w sc 5 n (n + length (code q)) a k (HoldsValue sc p d r d z a) (at_no_cost (on x))
 
-  pub ones : (code : ℕ → List Inst) (m : Made) (need : ℕ) (on : Value → Result Value Failure) (t z : Ty) (d r n : ℕ) (c : Contents) (k : Behind) (x : Costed Value) → k.pending ≡ Idle → 8 ≤ r → r + need ≤ 20 → 1 ≤ need → Ready sc p s c → CodeAt w n (one_code code m r) →
-      OperandRuns w sc p s m need t x → FinishesOne code d r t z on → Evaluates w sc 0 n (n + length (one_code code m r)) c k (HoldsValue sc p d r d z c) (paying 1 (x >>= λ v. at_no_cost (on v)))
+  pub ones : (code : ℕ → List Inst) (m : Made) (need : ℕ) (on : Value → Result Value Failure) (t z : Ty) (d r n : ℕ) (c : Contents) (k : Behind) (x : Costed Value) → k.pending ≡ Idle → 8 ≤ r → r + need ≤ 20 → 1 ≤ need → Ready sc p live s c → CodeAt w n (one_code code m r) →
+      OperandRuns w sc p live s m need t x → FinishesOne code d r t z on → Evaluates w sc 0 n (n + length (one_code code m r)) c k (HoldsValue sc p d r d z c) (paying 1 (x >>= λ v. at_no_cost (on v)))
   ones code m need on t z d r n c k x idle lo hi some ready there o finish =
       let a = o r n c k idle ready (code_front w n (operand_code m r) (code (operand_register m r)) there) lo hi in
       let len : n + length (operand_code m r) + length (code (operand_register m r)) ≡ n + length (one_code code m r) = omega (arith, length-append (operand_code m r) (code (operand_register m r))) in
@@ -128,11 +128,11 @@ module _ (w : World) (sc : Scope) (p : Bases) (s : C0State) (f : Machine w) (are
       (finish v (operand_register m r) _ b k idle g.fits g.is (code_back w n (operand_code m r) (code (operand_register m r)) there)))))
 
   -- one instruction, or two, that leave a word in d
-  pub once : (d r v n : ℕ) (z : Ty) (x : Value) (a : Contents) (k : Behind) → d ≢ 0 → v ≡ word sc p x → Fits sc.env.structs (layout sc p) z x
+  pub once : (d r v n : ℕ) (z : Ty) (x : Value) (a : Contents) (k : Behind) → d ≢ 0 → v ≡ word_of_scalar sc p x → Fits sc.env.structs (layout sc p) z x
       → Reaches w 1 (at_with n a k) (at_with (n + 1) (with_reg a d v) k) → Evaluates w sc 5 n (n + 1) a k (HoldsValue sc p d r d z a) (at_no_cost (Ok x))
   once d r v n z x a k nz e fits run = arrives w sc 5 n (n + 1) a (with_reg a d v) k (HoldsValue sc p d r d z a) x (record { is = same_read a.regs d v nz ∙ e; fits = fits; keeps = keeps_put r d v a }) (later w 1 5 _ _ (omega arith) run)
 
-  pub twice : (d r u v n : ℕ) (z : Ty) (x : Value) (a : Contents) (k : Behind) → d ≢ 0 → v ≡ word sc p x → Fits sc.env.structs (layout sc p) z x
+  pub twice : (d r u v n : ℕ) (z : Ty) (x : Value) (a : Contents) (k : Behind) → d ≢ 0 → v ≡ word_of_scalar sc p x → Fits sc.env.structs (layout sc p) z x
       → Reaches w 1 (at_with n a k) (at_with (n + 1) (with_reg a d u) k)
       → Reaches w 1 (at_with (n + 1) (with_reg a d u) k) (at_with (n + 1 + 1) (with_reg (with_reg a d u) d v) k)
       → Evaluates w sc 5 n (n + 2) a k (HoldsValue sc p d r d z a) (at_no_cost (Ok x))
@@ -143,7 +143,7 @@ module _ (w : World) (sc : Scope) (p : Bases) (s : C0State) (f : Machine w) (are
       (arrives w sc 5 n (n + 1 + 1) a (with_reg b d v) k (HoldsValue sc p d r d z a) x (record { is = same_read b.regs d v nz ∙ e; fits = fits; keeps = keeps_on r d a b (with_reg b d v) (keeps_put r d u a) (keeps_put r d v b) }) (later w 2 5 _ _ (omega arith) (joined w 1 1 _ _ _ one two)))
 
   -- one instruction that takes hi or lo
-  widened : (d r hi lo v n to : ℕ) (z : Ty) (x : Value) (a : Contents) (k : Behind) → d ≢ 0 → v ≡ word sc p x → Fits sc.env.structs (layout sc p) z x
+  widened : (d r hi lo v n to : ℕ) (z : Ty) (x : Value) (a : Contents) (k : Behind) → d ≢ 0 → v ≡ word_of_scalar sc p x → Fits sc.env.structs (layout sc p) z x
       → Reaches w 5 (at_with n a k) (at_with to (with_reg (with_wide a hi lo) d v) k)
       → Evaluates w sc 5 n to a k (HoldsValue sc p d r d z a) (at_no_cost (Ok x))
   widened d r hi lo v n to z x a k nz e fits run =
@@ -227,7 +227,7 @@ module _ (w : World) (sc : Scope) (p : Bases) (s : C0State) (f : Machine w) (are
 
   divisions : (o : BinaryOp) (i : Inst) (d r : ℕ) (pick : ℕ → ℕ → ℕ) (div : ℤ → ℤ → ℤ) → Takes i d pick div → d ≢ 0
       → ((x y : ℤ) → on_binary o (int x) (int y) ≡ divided div x y) → (sure : Bool)
-      → FinishesFor (λ y. sure ≡ true → word sc p y ≢ 0) (λ q g. divisor_code sc sure g ++ (Divide q g ∷ i ∷ [])) d r ty.int ty.int ty.int (on_binary o)
+      → FinishesFor (λ y. sure ≡ true → word_of_scalar sc p y ≢ 0) (λ q g. divisor_code sc sure g ++ (Divide q g ∷ i ∷ [])) d r ty.int ty.int ty.int (on_binary o)
   divisions o i d r pick div takes nz on sure (int x) (int y) known q g n a k idle fx fy ex ey there = subst (λ e. Evaluates w sc 5 n (n + length (divisor_code sc sure g ++ (Divide q g ∷ i ∷ []))) a k (HoldsValue sc p d r d ty.int a) (at_no_cost e)) (sym (on x y)) (by_divisor sure y known fy ey there)
     where
       whole : (sure : Bool) (y : ℤ) → 0 < unsigned_abs y → FitsSigned w32 y → reg a.regs g ≡ word_of y
@@ -235,7 +235,7 @@ module _ (w : World) (sc : Scope) (p : Bases) (s : C0State) (f : Machine w) (are
           → Evaluates w sc 5 n (n + length (divisor_code sc sure g ++ (Divide q g ∷ i ∷ []))) a k (HoldsValue sc p d r d ty.int a) (at_no_cost (Ok (int (div x y))))
       whole true y some fy ey there = parts i d r pick div takes nz x y q g n n a k idle fx fy some ex ey there (later w 0 1 _ _ (omega arith) (stays w _ _ refl))
       whole false y some fy ey there =
-          let go = skips w sc p s f area is_typed n g 0 a k idle there.0 (λ z. absurd (not_zero y fy some (sym ey ∙ z))) in
+          let go = skips w sc p live s f area is_typed n g 0 a k idle there.0 (λ z. absurd (not_zero y fy some (sym ey ∙ z))) in
           let z : n + 1 + 1 ≡ n + 2 = omega arith in
           ends_at w sc 5 n (n + 2 + 2) (n + 4) a k (HoldsValue sc p d r d ty.int a) (at_no_cost (Ok (int (div x y)))) (omega arith)
           (parts i d r pick div takes nz x y q g n (n + 2) a k idle fx fy some ex ey (subst (λ m. CodeAt w m (Divide q g ∷ i ∷ [])) z there.1.1) go)
@@ -245,7 +245,7 @@ module _ (w : World) (sc : Scope) (p : Bases) (s : C0State) (f : Machine w) (are
           → Evaluates w sc 5 n (n + length (divisor_code sc sure g ++ (Divide q g ∷ i ∷ []))) a k (HoldsValue sc p d r d ty.int a) (at_no_cost (divided div x y))
       by_divisor true (pos zero) known fy ey there = absurd (known refl refl)
       by_divisor false (pos zero) known fy ey there =
-          let go = falls w sc p s f area is_typed n g 0 a k idle there.0 ey in
+          let go = falls w sc p live s f area is_typed n g 0 a k idle there.0 ey in
           faults w sc 5 n (n + 4) a a k (HoldsValue sc p d r d ty.int a) DivZero (keeps_all 0 0 a) (later w 2 5 _ _ (omega arith) (joined w 1 1 _ _ _ go (jumps w f (n + 1) (sc.exit DivZero) a k idle there.1.0)))
       by_divisor sure (pos (suc m)) known fy ey there = whole sure (pos (suc m)) (omega arith) fy ey there
       by_divisor sure (negsuc m) known fy ey there = whole sure (negsuc m) (omega arith) fy ey there
@@ -259,14 +259,14 @@ module _ (w : World) (sc : Scope) (p : Bases) (s : C0State) (f : Machine w) (are
   divisions o i d r pick div takes nz on sure (group vs) y known q g n a k idle fx fy ex ey there = absurd fx
 
   pub quotients : (d r : ℕ) → d ≢ 0 → (sure : Bool)
-      → FinishesFor (λ y. sure ≡ true → word sc p y ≢ 0) (λ q g. divisor_code sc sure g ++ (Divide q g ∷ Mflo d ∷ [])) d r ty.int ty.int ty.int (on_binary Div)
+      → FinishesFor (λ y. sure ≡ true → word_of_scalar sc p y ≢ 0) (λ q g. divisor_code sc sure g ++ (Divide q g ∷ Mflo d ∷ [])) d r ty.int ty.int ty.int (on_binary Div)
   quotients d r nz sure = divisions Div (Mflo d) d r (λ hi lo. lo) quotient (takes_quotient d) nz (λ x y. refl) sure
 
   pub remainders : (d r : ℕ) → d ≢ 0 → (sure : Bool)
-      → FinishesFor (λ y. sure ≡ true → word sc p y ≢ 0) (λ q g. divisor_code sc sure g ++ (Divide q g ∷ Mfhi d ∷ [])) d r ty.int ty.int ty.int (on_binary Rem)
+      → FinishesFor (λ y. sure ≡ true → word_of_scalar sc p y ≢ 0) (λ q g. divisor_code sc sure g ++ (Divide q g ∷ Mfhi d ∷ [])) d r ty.int ty.int ty.int (on_binary Rem)
   remainders d r nz sure = divisions Rem (Mfhi d) d r (λ hi lo. hi) remainder (takes_remainder d) nz (λ x y. refl) sure
 
-  pub orders : (o : BinaryOp) (d r : ℕ) → d ≢ 0 → IsOrder o → Finishes (λ q g. operator_code o d q g) d r ty.int ty.int ty.bool (on_binary o)
+  pub orders : (o : BinaryOp) (d r : ℕ) → d ≢ 0 → IsOrdering o → Finishes (λ q g. operator_code o d q g) d r ty.int ty.int ty.bool (on_binary o)
   orders _ d r nz lt = on_numbers (λ q g. operator_code Lt d q g) d r ty.bool (on_binary Lt) (λ x y q g n a k idle fx fy ex ey there.
       once d r (flag (int_lt x y)) n ty.bool (bool (int_lt x y)) a k nz refl tt
       (said_step w f (Slt d q g) (Becomes (flag (int_lt x y))) n a k there.0 refl idle (ap flag (ap₂ less ex ey ∙ word_less x y fx fy))))
@@ -312,12 +312,12 @@ module _ (w : World) (sc : Scope) (p : Bases) (s : C0State) (f : Machine w) (are
   ]
 
   pub same_words : (t : Ty) (x y : Value) → is_scalar t ≡ true → Fits sc.env.structs (layout sc p) t x → Fits sc.env.structs (layout sc p) t y
-      → same x y ≡ nat_eq (word sc p x) (word sc p y)
+      → same x y ≡ nat_eq (word_of_scalar sc p x) (word_of_scalar sc p y)
   same_words ty.int (int x) (int y) e h g = int_words x y h g
   same_words ty.bool (bool x) (bool y) e h g = bool_words x y
   same_words (ty.pointer t) null null e h g = refl
-  same_words (ty.pointer t) null (at m) e h g = let r = (pointer_room w sc p s f area is_typed m.region m.path t g).0 in sym (ne_eqb 0 (4 * location_word sc p m) (λ z. absurd (omega (arith, z, r))))
-  same_words (ty.pointer t) (at l) null e h g = let r = (pointer_room w sc p s f area is_typed l.region l.path t h).0 in sym (ne_eqb (4 * location_word sc p l) 0 (λ z. absurd (omega (arith, z, r))))
+  same_words (ty.pointer t) null (at m) e h g = let r = (pointer_room w sc p live s f area is_typed m.region m.path t g).0 in sym (ne_eqb 0 (4 * location_word sc p m) (λ z. absurd (omega (arith, z, r))))
+  same_words (ty.pointer t) (at l) null e h g = let r = (pointer_room w sc p live s f area is_typed l.region l.path t h).0 in sym (ne_eqb (4 * location_word sc p l) 0 (λ z. absurd (omega (arith, z, r))))
   same_words (ty.pointer t) (at l) (at m) e h g = at_same t l m h g
   same_words ty.int (int x) _ e h g = absurd g
   same_words ty.bool (bool x) _ e h g = absurd g
@@ -332,16 +332,16 @@ module _ (w : World) (sc : Scope) (p : Bases) (s : C0State) (f : Machine w) (are
   pub equals : (o : BinaryOp) (t : Ty) (d r : ℕ) → is_scalar t ≡ true → d ≢ 0 → IsEquality o
       → Finishes (λ q g. operator_code o d q g) d r t t ty.bool (on_binary o)
   equals _ t d r scalar nz eq x y o q g n a k idle fx fy ex ey there =
-      let u : ℕ = bit_xor (word sc p x) (word sc p y) in
-      twice d r (bit_xor (word sc p x) (word sc p y)) (flag (same x y)) n ty.bool (bool (same x y)) a k nz refl tt
-      (said_step w f (Xor d q g) (Becomes (bit_xor (word sc p x) (word sc p y))) n a k there.0 refl idle (ap₂ bit_xor ex ey))
-      (said_step w f (Sltiu d d 1) (Becomes (flag (same x y))) (n + 1) (with_reg a d (bit_xor (word sc p x) (word sc p y))) k there.1.0 refl idle
-      (ap (λ z. flag (nat_lt z 1)) (same_read a.regs d (bit_xor (word sc p x) (word sc p y)) nz) ∙ ap flag (xor_tests (word sc p x) (word sc p y) ∙ sym (same_words t x y scalar fx fy))))
+      let u : ℕ = bit_xor (word_of_scalar sc p x) (word_of_scalar sc p y) in
+      twice d r (bit_xor (word_of_scalar sc p x) (word_of_scalar sc p y)) (flag (same x y)) n ty.bool (bool (same x y)) a k nz refl tt
+      (said_step w f (Xor d q g) (Becomes (bit_xor (word_of_scalar sc p x) (word_of_scalar sc p y))) n a k there.0 refl idle (ap₂ bit_xor ex ey))
+      (said_step w f (Sltiu d d 1) (Becomes (flag (same x y))) (n + 1) (with_reg a d (bit_xor (word_of_scalar sc p x) (word_of_scalar sc p y))) k there.1.0 refl idle
+      (ap (λ z. flag (nat_lt z 1)) (same_read a.regs d (bit_xor (word_of_scalar sc p x) (word_of_scalar sc p y)) nz) ∙ ap flag (xor_tests (word_of_scalar sc p x) (word_of_scalar sc p y) ∙ sym (same_words t x y scalar fx fy))))
   equals _ t d r scalar nz ne x y o q g n a k idle fx fy ex ey there =
-      twice d r (bit_xor (word sc p x) (word sc p y)) (flag (not (same x y))) n ty.bool (bool (not (same x y))) a k nz refl tt
-      (said_step w f (Xor d q g) (Becomes (bit_xor (word sc p x) (word sc p y))) n a k there.0 refl idle (ap₂ bit_xor ex ey))
-      (said_step w f (Sltu d 0 d) (Becomes (flag (not (same x y)))) (n + 1) (with_reg a d (bit_xor (word sc p x) (word sc p y))) k there.1.0 refl idle
-      (ap (λ z. flag (nat_lt 0 z)) (same_read a.regs d (bit_xor (word sc p x) (word sc p y)) nz) ∙ ap flag (xor_differs (word sc p x) (word sc p y) ∙ ap not (sym (same_words t x y scalar fx fy)))))
+      twice d r (bit_xor (word_of_scalar sc p x) (word_of_scalar sc p y)) (flag (not (same x y))) n ty.bool (bool (not (same x y))) a k nz refl tt
+      (said_step w f (Xor d q g) (Becomes (bit_xor (word_of_scalar sc p x) (word_of_scalar sc p y))) n a k there.0 refl idle (ap₂ bit_xor ex ey))
+      (said_step w f (Sltu d 0 d) (Becomes (flag (not (same x y)))) (n + 1) (with_reg a d (bit_xor (word_of_scalar sc p x) (word_of_scalar sc p y))) k there.1.0 refl idle
+      (ap (λ z. flag (nat_lt 0 z)) (same_read a.regs d (bit_xor (word_of_scalar sc p x) (word_of_scalar sc p y)) nz) ∙ ap flag (xor_differs (word_of_scalar sc p x) (word_of_scalar sc p y) ∙ ap not (sym (same_words t x y scalar fx fy)))))
 
   pub negatives : (d r : ℕ) → d ≢ 0 → FinishesOne (λ q. Subu d 0 q ∷ []) d r ty.int ty.int (on_unary Negate)
   negatives d r nz (int x) q n a k idle fx ex there =
@@ -426,10 +426,10 @@ module _ (w : World) (sc : Scope) (p : Bases) (s : C0State) (f : Machine w) (are
   flag_below true = omega arith
   flag_below false = omega arith
 
-  pub logics : (i : ℕ → Inst) (decides : Bool) (ma mb : Made) (na nb d r n : ℕ) (c : Contents) (k : Behind) (x y : Costed Value) (rest : Bool → Costed Value) → k.pending ≡ Idle → 8 ≤ r → r + na ≤ 20 → r + nb ≤ 20 → 1 ≤ nb → d ≢ 0 → d ≢ 1 → Ready sc p s c → CodeAt w n (logic_code i ma mb d r) →
+  pub logics : (i : ℕ → Inst) (decides : Bool) (ma mb : Made) (na nb d r n : ℕ) (c : Contents) (k : Behind) (x y : Costed Value) (rest : Bool → Costed Value) → k.pending ≡ Idle → 8 ≤ r → r + na ≤ 20 → r + nb ≤ 20 → 1 ≤ nb → d ≢ 0 → d ≢ 1 → Ready sc p live s c → CodeAt w n (logic_code i ma mb d r) →
       ((m : ℕ) → w.code m ≡ Some (i (length (mb.value r r) % 2 ^ 16)) → Skip (i (length (mb.value r r) % 2 ^ 16)) decides r (length (mb.value r r)) m k) →
       rest decides ≡ at_no_cost (Ok (bool decides)) → rest (not decides) ≡ y →
-      ValueRuns w sc p s ma na ty.bool x → ValueRuns w sc p s mb nb ty.bool y → Evaluates w sc 0 n (n + length (logic_code i ma mb d r)) c k (HoldsValue sc p d r d ty.bool c) (paying 1 (truth x >>= rest))
+      ValueRuns w sc p live s ma na ty.bool x → ValueRuns w sc p live s mb nb ty.bool y → Evaluates w sc 0 n (n + length (logic_code i ma mb d r)) c k (HoldsValue sc p d r d ty.bool c) (paying 1 (truth x >>= rest))
   logics i decides ma mb na nb d r n c k x y rest idle lo ha hb some nz no1 ready there skip stop go va vb =
       node w sc 2 n to c k R (truth x >>= rest) (omega arith)
       (binds w sc 0 2 n n1 to c k Q R (truth x) rest (truths r n n1 c k x (omega arith) (va r r n c k idle ready (code_front w n is tail there) lo ha (λ z. absurd (omega (arith, z, lo))) (λ z. absurd (omega (arith, z, lo)))))
@@ -476,12 +476,12 @@ module _ (w : World) (sc : Scope) (p : Bases) (s : C0State) (f : Machine w) (are
 
       undecided : (b : Contents) → reg b.regs r ≡ flag (not decides) → KeepsRegisters r r c b → Evaluates w sc 2 n1 to b k R y
       undecided b e keeps =
-          let ready_b = ready_on sc p s c b (keeps_low r r c b (omega arith) keeps) ready in
+          let ready_b = ready_on sc p live s c b (keeps_low r r c b (omega arith) keeps) ready in
           after w sc 1 1 n1 (n1 + 1) to b b k R y (keeps_all 0 0 b) ((skip n1 tail_there.0).on b e)
           (onward w sc 0 1 (n1 + 1) n2 to b k (HoldsValue sc p r r r ty.bool b) R y
           (vb r r (n1 + 1) b k idle ready_b (code_front w (n1 + 1) js (to_code d r) tail_there.1) lo hb (λ z. absurd (omega (arith, z, lo))) (λ z. absurd (omega (arith, z, lo))))
           (λ v j h.
-          let a = brings d r (word sc p v) n2 j k idle nz h.is (word_small w sc p s f area is_typed v ty.bool h.fits refl) to_there in
+          let a = brings d r (word_of_scalar sc p v) n2 j k idle nz h.is (word_small w sc p live s f area is_typed v ty.bool h.fits refl) to_there in
           (a.core, record { is = a.is; fits = h.fits; keeps = keeps_on r d c b a.core (keeps_in r r d c b (omega arith) (omega arith) keeps) (keeps_on r d b j a.core (keeps_in r r d b j (omega arith) (omega arith) h.keeps) a.keeps) }, subst (λ m. Reaches w 1 (at_with n2 j k) (at_with m a.core k)) len a.run)))
 
       by_bool : (z : Bool) (b : Contents) → Q z b → Evaluates w sc 2 n1 to b k R (rest z)

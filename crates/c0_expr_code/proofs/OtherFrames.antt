@@ -10,10 +10,10 @@ use Rattle.c0_meaning.specs.Addresses.{words_to, words_to_part}
 use Rattle.c0_meaning.specs.Value.{Region, globals, heap, locals, Value, int, bool, null, at, group, Values, empty, part}
 use Rattle.c0_meaning.specs.TypedState.{types_of, LeadsFrom, PointsTo, Fits, AllFit, AreParts}
 use Rattle.c0_expr_code.specs.Scope.{Scope}
-use Rattle.c0_expr_code.specs.Bases.{Bases, location_word, word, Held, AllHeld, RegionHeld}
+use Rattle.c0_expr_code.specs.Bases.{Bases, location_word, word_of_scalar, Held, AllHeld, RegionHeld}
 use Rattle.c0_expr_code.specs.Relation.{layout}
 use Rattle.c0_expr_code.specs.Laws.{IsLater}
-use Rattle.c0_expr_code.proofs.Parts.{get_before}
+use Rattle.c0_expr_code.proofs.FittingParts.{get_before}
 
 before_more : (structs : List Shape) (types more : List Ty) (i : ℕ) (t : Ty) → slice_get types i ≡ Some t
     → words_before structs (types ++ more) i ≡ words_before structs types i
@@ -35,7 +35,7 @@ module _ (sc : Scope) (p : Bases) (other : Scope) (q : Bases) (later : IsLater s
   word_at_same heap path t h = ap₂ (λ a b. a + b) later.heap (ap₂ (λ s ts. words_to_part s ts path) later.structs later.objects.1 ∙ to_more sc.env.structs p.objects later.objects.0 path t h)
   word_at_same locals path t h = absurd h
 
-  word_same : (t : Ty) (v : Value) → Fits sc.env.structs (layout sc p) t v → is_scalar t ≡ true → word other q v ≡ word sc p v
+  word_same : (t : Ty) (v : Value) → Fits sc.env.structs (layout sc p) t v → is_scalar t ≡ true → word_of_scalar other q v ≡ word_of_scalar sc p v
   word_same ty.int (int z) f s = refl
   word_same ty.bool (bool b) f s = refl
   word_same (ty.pointer t) null f s = refl
@@ -68,5 +68,5 @@ module _ (sc : Scope) (p : Bases) (other : Scope) (q : Bases) (later : IsLater s
   region a ts null f h = absurd h
   region a ts (at l) f h = absurd h
 
-  pub scalar : (t : Ty) (v : Value) → Fits sc.env.structs (layout sc p) t v → is_scalar t ≡ true → word other q v ≡ word sc p v
+  pub scalar : (t : Ty) (v : Value) → Fits sc.env.structs (layout sc p) t v → is_scalar t ≡ true → word_of_scalar other q v ≡ word_of_scalar sc p v
   scalar t v f s = word_same t v f s

@@ -1,5 +1,5 @@
 -- The code that scales an index: a shift, where an element's words are a power of two, or a multiplication.
-use Rattle.std.proofs.Common.{◌≡◌, ◌≢◌, inl, inr, ℕ, zero, suc, ◌+◌, ◌*◌, ◌%◌, ◌^◌, ◌<◌, nat_eq, Option, Some, None, List, [], ◌∷◌, length, refl, sym, ap, ap₂, ◌∙◌, subst, arith, length-append, ne_eqb}
+use Rattle.std.proofs.Common.{Bool, ◌≡◌, ◌≢◌, inl, inr, ℕ, zero, suc, ◌+◌, ◌*◌, ◌%◌, ◌^◌, ◌<◌, nat_eq, Option, Some, None, List, [], ◌∷◌, length, refl, sym, ap, ap₂, ◌∙◌, subst, arith, length-append, ne_eqb}
 use Rattle.std.proofs.lemmas.Bool.{cases_Bool, cases_eq, eqb-true, cond-true, cond-false}
 use Rattle.std.proofs.Math.Nat.{mul_comm, mul_assoc}
 use Rattle.std.proofs.lemmas.Nat.{pow-add}
@@ -14,9 +14,9 @@ use Rattle.c0_expr_code.specs.Scope.{Scope}
 use Rattle.c0_expr_code.specs.Bases.{Bases}
 use Rattle.c0_expr_code.specs.Code.{constant_code, shift_within, POWERS, scaled_code, scale_code}
 use Rattle.c0_expr_code.specs.Relation.{StateIsTyped, Area, KeepsRegisters}
-use Rattle.c0_expr_code.proofs.Machine.{Machine, joined, later, code_front, code_back, said_step}
+use Rattle.c0_expr_code.proofs.CodeRuns.{Machine, joined, later, code_front, code_back, said_step}
 use Rattle.c0_expr_code.proofs.Products.{number_product}
-use Rattle.c0_expr_code.proofs.Steps.{other_reg, other_read, keeps_on, keeps_one}
+use Rattle.c0_expr_code.proofs.SideBySide.{other_reg, other_read, keeps_on, keeps_one}
 use Rattle.c0_expr_code.proofs.Nodes.{constant_runs}
 
 shift_is : (n k by : ℕ) → shift_within n k ≡ Some by → 2 ^ by ≡ 4 * k
@@ -47,7 +47,7 @@ raw_kept a b h o x n = elim (cases_eq x 0) [
 pub all_kept : (r : ℕ) (a b : Contents) → KeepsRegisters 1 1 a b → ((x : ℕ) → x ≢ 1 → reg b.regs x ≡ reg a.regs x) → KeepsRegisters r r a b
 all_kept r a b h o = record { memory = h.memory; special = h.special; below = λ x n m l. raw_kept a b h o x n; above = λ x n l. raw_kept a b h o x (λ e. absurd (omega (arith, e, l))) }
 
-module _ (w : World) (sc : Scope) (p : Bases) (s : C0State) (f : Machine w) (area : Area w sc p) (is_typed : StateIsTyped sc p s) where
+module _ (w : World) (sc : Scope) (p : Bases) (live : ℕ → Bool) (s : C0State) (f : Machine w) (area : Area w sc p) (is_typed : StateIsTyped sc p s) where
   pub record Scaled (code : List Inst) (k q n : ℕ) (a : Contents) (d : Behind) : Type 0 where
     pub core : Contents
     pub is : reg core.regs 1 ≡ 4 * (k * reg a.regs q) % 2 ^ 32
@@ -70,7 +70,7 @@ module _ (w : World) (sc : Scope) (p : Bases) (s : C0State) (f : Machine w) (are
       }
   scales_by None k q n a d idle ne small low is there =
       let js : List Inst = Mult q 1 ∷ Mflo 1 ∷ [] in
-      let first = constant_runs w sc p s f area is_typed 1 1 (4 * k % 2 ^ 32) n a d (omega arith) idle (λ z. absurd (omega (arith, z))) (code_front w n (constant_code 1 (4 * k % 2 ^ 32)) (Mult q 1 ∷ Mflo 1 ∷ []) there) in
+      let first = constant_runs w sc p live s f area is_typed 1 1 (4 * k % 2 ^ 32) n a d (omega arith) idle (λ z. absurd (omega (arith, z))) (code_front w n (constant_code 1 (4 * k % 2 ^ 32)) (Mult q 1 ∷ Mflo 1 ∷ []) there) in
       let rest = code_back w n (constant_code 1 (4 * k % 2 ^ 32)) (Mult q 1 ∷ Mflo 1 ∷ []) there in
       let b : Contents = first.0 in
       let product : lower (signed_product (reg first.0.regs q) (reg first.0.regs 1)) ≡ 4 * (k * reg a.regs q) % 2 ^ 32 =

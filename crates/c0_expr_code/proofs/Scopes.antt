@@ -3,7 +3,7 @@ use Rattle.std.proofs.Common.{◌≡◌, ℕ, ◌/◌, Bool, List, Some, Result,
 use Rattle.std.specs.Prelude.{slice_get, slice_index}
 use Rattle.c0_tree.specs.Tree.{CFunction}
 use Rattle.c0_tree.specs.View.{unit_view}
-use Rattle.masm.specs.declared.registers.Places.{Places}
+use Rattle.masm.specs.declared.registers.CodeAddresses.{CodeAddresses}
 use Rattle.c0_meaning.specs.Env.{Env}
 use Rattle.c0_meaning.specs.Limits.{words_of_frame}
 use Rattle.c0_meaning.specs.Sound.{shapes}
@@ -21,12 +21,12 @@ same : (e e' : Env) (b b' : Bool) (n n' : ℕ) (l l' : List ℕ) → e ≡ e' �
 same e e' b b' n n' l l' p q r s =
     ap (λ (z : Env). made_of z b n l) p ∙ ap (λ (z : Bool). made_of e' z n l) q ∙ ap (λ (z : ℕ). made_of e' b' z l) r ∙ ap (λ (z : List ℕ). made_of e' b' n' z) s
 
-pub scope_is : {E : Type 0} (result : Result Scene E) (layout : Layout) (n : ℕ) (places : Places) (f : CFunction) → IfOk result (λ x. x.layout.now ≡ layout) → IfOk result (λ x. x.function ≡ n) → IfOk result (λ x. exits_of x.exits ≡ places.faults)
+pub scope_is : {E : Type 0} (result : Result Scene E) (layout : Layout) (n : ℕ) (addresses : CodeAddresses) (f : CFunction) → IfOk result (λ x. x.layout.now ≡ layout) → IfOk result (λ x. x.function ≡ n) → IfOk result (λ x. exits_of x.exits ≡ addresses.faults)
     → IfOk result (λ x. x.frame ≡ words_of_frame (shapes (unit_view layout.unit.now)) f) → IfOk result (λ x. x.in_registers ≡ keeps_registers f) → slice_get (unit_view layout.unit.now).functions n ≡ Some f
-    → IfOk result (λ x. scope_in x ≡ scope_of (unit_view layout.unit.now) f places)
+    → IfOk result (λ x. scope_in x ≡ scope_of (unit_view layout.unit.now) f addresses)
 unfolding made_of
-scope_is (Err e) layout n places f a b c d g h = a
-scope_is (Ok x) layout n places f a b c d g h =
+scope_is (Err e) layout n addresses f a b c d g h = a
+scope_is (Ok x) layout n addresses f a b c d g h =
     same _ _ _ _ _ _ _ _
     (ap (λ (l : Layout). env_at (unit_view l.unit.now) (slice_get (unit_view l.unit.now).functions x.function)) a ∙ ap (λ (k : ℕ). env_at (unit_view layout.unit.now) (slice_get (unit_view layout.unit.now).functions k)) b ∙ ap (env_at (unit_view layout.unit.now)) h)
     g d c

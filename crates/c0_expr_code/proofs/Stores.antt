@@ -7,7 +7,7 @@ use Rattle.c0_meaning.specs.Value.{Value, int, bool, null, at, group, Values, em
 use Rattle.c0_meaning.specs.TypedState.{types_of, LeadsFrom, PathLeads}
 use Rattle.c0_expr_code.proofs.Paths.{there}
 use Rattle.c0_expr_code.specs.Scope.{Scope}
-use Rattle.c0_expr_code.specs.Bases.{Bases, words_of_all, word, Held, AllHeld, RegionHeld}
+use Rattle.c0_expr_code.specs.Bases.{Bases, words_of_all, word_of_scalar, Held, AllHeld, RegionHeld}
 use Rattle.c0_meaning.specs.Sizes.{words_before}
 use Rattle.c0_meaning.specs.Addresses.{words_to, words_to_part}
 use Rattle.c0_expr_code.proofs.Offsets.{one_word, before_replicate, before_room}
@@ -135,7 +135,7 @@ module _ (sc : Scope) (p : Bases) (opened : (x : List ℕ) → words sc.env.stru
   put_region a ts (i ∷ path) u (at y) x l h g others = absurd h
 
   -- a scalar's word
-  pub scalar_held : (b : ℕ) (u : Ty) (x : Value) → is_scalar u ≡ true → m' b ≡ word sc p x → Held sc p m' b u x
+  pub scalar_held : (b : ℕ) (u : Ty) (x : Value) → is_scalar u ≡ true → m' b ≡ word_of_scalar sc p x → Held sc p m' b u x
   scalar_held b ty.int x s e = e
   scalar_held b ty.bool x s e = e
   scalar_held b (ty.pointer t) x s e = e
@@ -144,7 +144,7 @@ module _ (sc : Scope) (p : Bases) (opened : (x : List ℕ) → words sc.env.stru
 
   -- where one word alone changes, a scalar is put there
   pub put_word : (a b : ℕ) (ts : List Ty) (path : List ℕ) (u : Ty) (v x : Value) → LeadsFrom sc.env.structs ts path u → is_scalar u ≡ true
-      → b ≡ a + words_to_part sc.env.structs ts path → m' b ≡ word sc p x → ((y : ℕ) → y ≢ b → m' y ≡ m y)
+      → b ≡ a + words_to_part sc.env.structs ts path → m' b ≡ word_of_scalar sc p x → ((y : ℕ) → y ≢ b → m' y ≡ m y)
       → RegionHeld sc p m a ts v → RegionHeld sc p m' a ts (value_with v path x)
   put_word a b ts path u v x l scalar is here others h =
       let one = one_word sc.env.structs u scalar in

@@ -12,11 +12,11 @@ use Rattle.mips_table.specs.Code.{Contents, reg, Behind, World, at_with, effect_
 use Rattle.c0_meaning.specs.Value.{Value}
 use Rattle.c0_meaning.specs.Operators.{Failure, faulted, stuck}
 use Rattle.c0_meaning.specs.Evaluation.{Costed, costs, at_no_cost, paying, ◌>>=◌, truth, bool_of}
-use Rattle.c0_expr_code.proofs.Machine.{Machine, joined, later, goes}
+use Rattle.c0_expr_code.proofs.CodeRuns.{Machine, joined, later, goes}
 use Rattle.c0_expr_code.specs.Scope.{Scope}
 use Rattle.c0_expr_code.specs.Relation.{KeepsRegisters, Evaluates, Splits, ends, Aims}
 use Rattle.c0_expr_code.specs.Test.{branch_code, negative_branch, positive_branch}
-use Rattle.c0_expr_code.proofs.Steps.{keeps_on}
+use Rattle.c0_expr_code.proofs.SideBySide.{keeps_on}
 
 module _ (w : World) (sc : Scope) where
   pub split_more : {A : Type 0} (m n from : ℕ) (to : A → ℕ) (c : Contents) (k : Behind) (Q : A → Contents → Type 0) (e : Costed A) → m ≤ n

@@ -16,7 +16,7 @@ use Rattle.c0_tree.specs.Tree.{CExpr, true_, false_, null, var, field, arrow, in
 use Rattle.c0_tree.specs.Size.{need, binary_need, nodes}
 use Rattle.c0_meaning.specs.Ty.{Ty, is_scalar}
 use Rattle.c0_meaning.specs.Ty as ty
-use Rattle.c0_meaning.specs.Judgement.{IsOrder, lt, le, gt, ge, IsEquality, eq, ne, IsLogical, and, or}
+use Rattle.c0_meaning.specs.Judgement.{IsOrdering, lt, le, gt, ge, IsEquality, eq, ne, IsLogical, and, or}
 use Rattle.c0_meaning.specs.Numbered.{HasNumberedType, a_number, a_true, a_false, a_variable, a_field, a_target_field, an_element, a_target, an_address, a_negative, a_negation, arithmetic, order, logic, equality, null_left, null_right, IsNumberedGiven, a_value}
 use Rattle.c0_meaning.specs.Value.{Value, int, bool, at, group}
 use Rattle.c0_meaning.specs.Value as value
@@ -29,14 +29,16 @@ use Rattle.cvm_words.specs.Words.{word_of}
 use Rattle.c0_expr_code.specs.Scope.{Scope}
 use Rattle.c0_expr_code.specs.Code.{low, is_near, Made, operand_code, operand_register, one_code, two_code, made}
 use Rattle.c0_expr_code.specs.Test.{branch_code, negative_branch, positive_branch, compare_code, ImmediateTest, below_code, immediate_test, immediate_test_of, Testing, compare_test, both_code, binary_test, plain_test, test_code}
-use Rattle.c0_expr_code.specs.Bases.{Bases, word}
+use Rattle.c0_expr_code.specs.Bases.{Bases, word_of_scalar}
 use Rattle.c0_expr_code.specs.Relation.{layout, StateIsTyped, Ready, KeepsRegisters, Area, HoldsValue, OperandRuns, Right, Splits, ends, Aims, TestRuns}
-use Rattle.c0_expr_code.proofs.Machine.{Machine, joined, later, stays, code_front, code_back, said_step}
+use Rattle.c0_expr_code.proofs.CodeRuns.{Machine, joined, later, stays, code_front, code_back, said_step}
 use Rattle.c0_expr_code.proofs.Words.{word_less, not_less}
-use Rattle.c0_expr_code.proofs.Steps.{keeps_all, keeps_on, keeps_in, keeps_one, keeps_low, ready_on, source_kept}
+use Rattle.c0_expr_code.proofs.SideBySide.{keeps_all, keeps_on, keeps_in, keeps_one, keeps_low, ready_on, source_kept}
 use Rattle.c0_expr_code.proofs.Operators.{same_words}
 use Rattle.c0_expr_code.proofs.Immediates.{near_some, less_near}
 use Rattle.c0_expr_code.proofs.NodeTypes.{KnownAs, known_is}
+use Rattle.c0_expr_code.proofs.FramePlaces.{or_left, or_right}
+use Rattle.c0_expr_code.specs.Reads.{reads, Covers}
 use Rattle.c0_expr_code.proofs.EveryExpression.{need_some, right, null_right_is}
 use Rattle.c0_expr_code.proofs.TestLengths.{both_length, test_length}
 use Rattle.c0_expr_code.proofs.Tests.{split_more, split_paid, split_binds, as_split, split_says, split_at, split_arrives, truth_paying, truth_binds, branches, negative_branches, positive_branches}
@@ -62,15 +64,15 @@ aims_in n m e far to before h = record { same = h.same; short = h.short; ahead =
 aims_at : (n e e' far to : ℕ) → e ≡ e' → Aims n e far to → Aims n e' far to
 aims_at n e e' far to q h = subst (λ x. Aims n x far to) q h
 
-module _ (w : World) (sc : Scope) (p : Bases) (s : C0State) (f : Machine w) (area : Area w sc p) (is_typed : StateIsTyped sc p s) where
+module _ (w : World) (sc : Scope) (p : Bases) (live : ℕ → Bool) (s : C0State) (f : Machine w) (area : Area w sc p) (is_typed : StateIsTyped sc p s) where
   -- a node pays for its test
   pays : (m n : ℕ) (to : Bool → ℕ) (c : Contents) (k : Behind) (Q : Bool → Contents → Type 0) (e : Costed Value) → m ≤ 16
       → Splits w sc m n to c k Q (truth e) → Splits w sc 0 n to c k Q (truth (paying 1 e))
   pays m n to c k Q e few h = subst (λ x. Splits w sc 0 n to c k Q x) (sym (truth_paying 1 e)) (split_paid w sc 1 0 n to c k Q (truth e) (split_more w sc m (0 + 16 * 1) n to c k Q (truth e) (omega arith) h))
 
   -- a test of a bool that is in a register
-  plain : (m : Made) (need : ℕ) (x : Costed Value) → OperandRuns w sc p s m need ty.bool x → (b : Bool) (far to r n : ℕ) (c : Contents) (k : Behind)
-      → k.pending ≡ Idle → Ready sc p s c → CodeAt w n (plain_test m b far r) → 8 ≤ r → r < 20 → r + need ≤ 20
+  plain : (m : Made) (need : ℕ) (x : Costed Value) → OperandRuns w sc p live s m need ty.bool x → (b : Bool) (far to r n : ℕ) (c : Contents) (k : Behind)
+      → k.pending ≡ Idle → Ready sc p live s c → CodeAt w n (plain_test m b far r) → 8 ≤ r → r < 20 → r + need ≤ 20
       → Aims n (n + length (plain_test m b far r)) far to →
       Splits w sc 1 n (ends b to (n + length (plain_test m b far r))) c k (λ y c'. KeepsRegisters r r c c') (truth x)
   plain m need x o b far to r n c k idle ready code lo hi room aims =
@@ -97,12 +99,12 @@ module _ (w : World) (sc : Scope) (p : Bases) (s : C0State) (f : Machine w) (are
   -- what a comparison's own code does
   abbrev Compares : BinaryOp → Ty → Ty → Type 0
   Compares o t u = (b : Bool) (far to r n' n : ℕ) (q g : ℕ) (x y : Value) (a : Contents) (k : Behind) → k.pending ≡ Idle → n' ≤ n
-      → Fits sc.env.structs (layout sc p) t x → Fits sc.env.structs (layout sc p) u y → reg a.regs q ≡ word sc p x → reg a.regs g ≡ word sc p y
+      → Fits sc.env.structs (layout sc p) t x → Fits sc.env.structs (layout sc p) u y → reg a.regs q ≡ word_of_scalar sc p x → reg a.regs g ≡ word_of_scalar sc p y
       → CodeAt w n (compare_code o b far q g) → Aims n' (n + length (compare_code o b far q g)) far to →
       Splits w sc 2 n (ends b to (n + length (compare_code o b far q g))) a k (λ z c'. KeepsRegisters r r a c') (truth (at_no_cost (on_binary o x y)))
 
-  compared : (o : BinaryOp) (ma mb : Made) (na nb : ℕ) (t u : Ty) (x y : Costed Value) → Compares o t u → OperandRuns w sc p s ma na t x
-      → OperandRuns w sc p s mb nb u y → (b : Bool) (far to r n : ℕ) (c : Contents) (k : Behind) → k.pending ≡ Idle → Ready sc p s c
+  compared : (o : BinaryOp) (ma mb : Made) (na nb : ℕ) (t u : Ty) (x y : Costed Value) → Compares o t u → OperandRuns w sc p live s ma na t x
+      → OperandRuns w sc p live s mb nb u y → (b : Bool) (far to r n : ℕ) (c : Contents) (k : Behind) → k.pending ≡ Idle → Ready sc p live s c
       → CodeAt w n (two_code (λ q t. compare_code o b far q t) ma mb r) → 8 ≤ r → r + na ≤ 20 → r + (nb + 1) ≤ 20 → 1 ≤ nb
       → Aims n (n + length (two_code (λ q t. compare_code o b far q t) ma mb r)) far to →
       Splits w sc 2 n (ends b to (n + length (two_code (λ q t. compare_code o b far q t) ma mb r))) c k (λ z c'. KeepsRegisters r r c c') (truth (x >>= λ v. y >>= λ w. at_no_cost (on_binary o v w)))
@@ -116,7 +118,7 @@ module _ (w : World) (sc : Scope) (p : Bases) (s : C0State) (f : Machine w) (are
       (split_binds w sc 0 2 n (λ z. n + length (operand_code ma r)) (ends b to (n + length (two_code (λ q t. compare_code o b far q t) ma mb r))) c k (HoldsValue sc p (operand_register ma r) r r t c) (λ z c'. KeepsRegisters r r c c') x _ (as_split w sc 0 n (n + length (operand_code ma r)) c k (HoldsValue sc p (operand_register ma r) r r t c) x a.1)
       (λ v e g. keeps_low r r c e (omega arith) g.keeps)
       (λ v e g.
-      let ready_e = ready_on sc p s c e (keeps_low r r c e (omega arith) g.keeps) ready in
+      let ready_e = ready_on sc p live s c e (keeps_low r r c e (omega arith) g.keeps) ready in
       let o2 = ob (r + 1) (n + length (operand_code ma r)) e k idle ready_e (code_front w _ (operand_code mb (r + 1)) (compare_code o b far (operand_register ma r) (operand_register mb (r + 1))) rest) (omega arith) (omega arith) in
       subst (λ z. Splits w sc 2 (n + length (operand_code ma r)) (ends b to (n + length (two_code (λ q t. compare_code o b far q t) ma mb r))) e k (λ z c'. KeepsRegisters r r c c') z) (sym (truth_binds y (λ w. at_no_cost (on_binary o v w))))
       (split_binds w sc 0 2 (n + length (operand_code ma r)) (λ z. n + length (operand_code ma r) + length (operand_code mb (r + 1))) (ends b to (n + length (two_code (λ q t. compare_code o b far q t) ma mb r))) e k (HoldsValue sc p (operand_register mb (r + 1)) (r + 1) (r + 1) u e) (λ z c'. KeepsRegisters r r c c') y _ (as_split w sc 0 _ _ e k (HoldsValue sc p (operand_register mb (r + 1)) (r + 1) (r + 1) u e) y o2.1)
@@ -131,11 +133,11 @@ module _ (w : World) (sc : Scope) (p : Bases) (s : C0State) (f : Machine w) (are
   equal : (o : BinaryOp) → IsEquality o → (t : Ty) → is_scalar t ≡ true → Compares o t t
   equal _ eq t scalar b far to r n' n q g x y a k idle before fx fy ex ey there aims =
       let run = branches w f b q g far to n' n a k idle there.0 before aims in
-      let which : nat_eq (reg a.regs q) (reg a.regs g) ≡ same x y = ap₂ nat_eq ex ey ∙ sym (same_words w sc p s f area is_typed t x y scalar fx fy) in
+      let which : nat_eq (reg a.regs q) (reg a.regs g) ≡ same x y = ap₂ nat_eq ex ey ∙ sym (same_words w sc p live s f area is_typed t x y scalar fx fy) in
       split_arrives w sc 2 n (ends b to (n + 1)) a a k (λ z c'. KeepsRegisters r r a c') (same x y) (keeps_all r r a) (later w 1 2 _ _ (omega arith) (subst (λ z. Reaches w 1 (at_with n a k) (at_with (ends b to (n + 1) z) a k)) which run))
   equal _ ne t scalar b far to r n' n q g x y a k idle before fx fy ex ey there aims =
       let run = branches w f (not b) q g far to n' n a k idle there.0 before aims in
-      let which : nat_eq (reg a.regs q) (reg a.regs g) ≡ same x y = ap₂ nat_eq ex ey ∙ sym (same_words w sc p s f area is_typed t x y scalar fx fy) in
+      let which : nat_eq (reg a.regs q) (reg a.regs g) ≡ same x y = ap₂ nat_eq ex ey ∙ sym (same_words w sc p live s f area is_typed t x y scalar fx fy) in
       let end : ends (not b) to (n + 1) (nat_eq (reg a.regs q) (reg a.regs g)) ≡ ends b to (n + 1) (not (same x y)) = ap (ends (not b) to (n + 1)) which ∙ twisted b to (n + 1) (same x y) in
       split_arrives w sc 2 n (ends b to (n + 1)) a a k (λ z c'. KeepsRegisters r r a c') (not (same x y)) (keeps_all r r a) (later w 1 2 _ _ (omega arith) (subst (λ z. Reaches w 1 (at_with n a k) (at_with z a k)) end run))
     where
@@ -168,7 +170,7 @@ module _ (w : World) (sc : Scope) (p : Bases) (s : C0State) (f : Machine w) (are
   ints o h b far to r n' n q g (at l) y a k idle before fx fy ex ey there aims = absurd fx
   ints o h b far to r n' n q g (group vs) y a k idle before fx fy ex ey there aims = absurd fx
 
-  ordered : (o : BinaryOp) → IsOrder o → Compares o ty.int ty.int
+  ordered : (o : BinaryOp) → IsOrdering o → Compares o ty.int ty.int
   ordered _ lt = ints Lt (λ b far to r n' n q g x y a k idle before fx fy ex ey there aims.
       let e : flag (less (reg a.regs q) (reg a.regs g)) ≡ flag (int_lt x y) = ap flag (ap₂ less ex ey ∙ word_less x y fx fy) in
       split_arrives w sc 2 n (ends b to (n + 2)) a (with_reg a 1 (flag (int_lt x y))) k (λ z c'. KeepsRegisters r r a c') (int_lt x y) (keeps_one r r (flag (int_lt x y)) a)
@@ -273,8 +275,8 @@ module _ (w : World) (sc : Scope) (p : Bases) (s : C0State) (f : Machine w) (are
 
   -- a value in a register, and then such code
   compared_with : (g : Bool → ℕ → ℕ → List Inst) (by : ℤ → Bool) (on : Value → Result Value Failure) (ma : Made) (na : ℕ) (x : Costed Value)
-      → ((z : ℤ) → on (int z) ≡ Ok (bool (by z))) → GoesBy g by → OperandRuns w sc p s ma na ty.int x
-      → (b : Bool) (far to r n : ℕ) (c : Contents) (k : Behind) → k.pending ≡ Idle → Ready sc p s c → CodeAt w n (one_code (λ q. g b far q) ma r)
+      → ((z : ℤ) → on (int z) ≡ Ok (bool (by z))) → GoesBy g by → OperandRuns w sc p live s ma na ty.int x
+      → (b : Bool) (far to r n : ℕ) (c : Contents) (k : Behind) → k.pending ≡ Idle → Ready sc p live s c → CodeAt w n (one_code (λ q. g b far q) ma r)
       → 8 ≤ r → r < 20 → r + na ≤ 20 → Aims n (n + length (one_code (λ q. g b far q) ma r)) far to →
       Splits w sc 2 n (ends b to (n + length (one_code (λ q. g b far q) ma r))) c k (λ y c'. KeepsRegisters r r c c') (truth (x >>= λ v. at_no_cost (on v)))
   compared_with g by on ma na x says own o b far to r n c k idle ready code lo hi room aims =
@@ -319,14 +321,14 @@ module _ (w : World) (sc : Scope) (p : Bases) (s : C0State) (f : Machine w) (are
 
   -- two tests
   abbrev TestsAs : Testing → ℕ → Costed Bool → Type 0
-  TestsAs code need e = (b : Bool) (far to r n : ℕ) (c : Contents) (k : Behind) → k.pending ≡ Idle → Ready sc p s c → CodeAt w n (code b far r)
+  TestsAs code need e = (b : Bool) (far to r n : ℕ) (c : Contents) (k : Behind) → k.pending ≡ Idle → Ready sc p live s c → CodeAt w n (code b far r)
       → 8 ≤ r → r + need ≤ 20 → Aims n (n + length (code b far r)) far to
       → Splits w sc 1 n (ends b to (n + length (code b far r))) c k (λ y c'. KeepsRegisters r r c c') e
 
   -- the first decides for the whole test's place: the first goes there, or on to the second
   straight_two : (decides : Bool) (one two : Testing) (na nb : ℕ) (x y : Costed Bool) (rest : Bool → Costed Bool) → TestsAs one na x
       → TestsAs two nb y → rest decides ≡ at_no_cost (Ok decides) → rest (not decides) ≡ y →
-      (far to r n : ℕ) (c : Contents) (k : Behind) → k.pending ≡ Idle → Ready sc p s c → 8 ≤ r → r < 20 → r + na ≤ 20 → r + nb ≤ 20 →
+      (far to r n : ℕ) (c : Contents) (k : Behind) → k.pending ≡ Idle → Ready sc p live s c → 8 ≤ r → r < 20 → r + na ≤ 20 → r + nb ≤ 20 →
       CodeAt w n (one decides ((far + length (two decides far r)) % 2 ^ 16) r ++ two decides far r) → Aims n (n + length (one decides ((far + length (two decides far r)) % 2 ^ 16) r ++ two decides far r)) far to →
       Splits w sc 2 n (ends decides to (n + length (one decides ((far + length (two decides far r)) % 2 ^ 16) r ++ two decides far r))) c k (λ z c'. KeepsRegisters r r c c') (x >>= rest)
   straight_two decides one two na nb x y rest t1 t2 stop go far to r n c k idle ready lo hi ha hb code aims =
@@ -384,12 +386,12 @@ module _ (w : World) (sc : Scope) (p : Bases) (s : C0State) (f : Machine w) (are
           (subst (λ m. Splits w sc 1 m (ends decides to end) b k (λ z c'. KeepsRegisters r r c c') y) (sym (at_end decides to n1))
           (split_at w sc 1 n1 (ends decides to (n1 + length js)) (ends decides to end) b k (λ z c'. KeepsRegisters r r c c') y (λ q. same_end decides to _ _ q len)
           (split_says w sc 1 n1 _ b k (λ z c'. KeepsRegisters r r b c') (λ z c'. KeepsRegisters r r c c') y (λ q j h. keeps_on r r c b j g h)
-          (t2 decides far to r n1 b k idle (ready_on sc p s c b (keeps_low r r c b hi g) ready) (code_back w n is js code) lo hb (aims_in n n1 (n1 + length js) far to (omega arith) (aims_at n end (n1 + length js) far to (sym len) aims)))))))
+          (t2 decides far to r n1 b k idle (ready_on sc p live s c b (keeps_low r r c b hi g) ready) (code_back w n is js code) lo hb (aims_in n n1 (n1 + length js) far to (omega arith) (aims_at n end (n1 + length js) far to (sym len) aims)))))))
 
   -- the first decides against it: it goes over the second, or on to it
   over_two : (decides : Bool) (one two : Testing) (na nb : ℕ) (x y : Costed Bool) (rest : Bool → Costed Bool) → TestsAs one na x → TestsAs two nb y
       → rest decides ≡ at_no_cost (Ok decides) → rest (not decides) ≡ y →
-      (far to r n : ℕ) (c : Contents) (k : Behind) → k.pending ≡ Idle → Ready sc p s c → 8 ≤ r → r < 20 → r + na ≤ 20 → r + nb ≤ 20
+      (far to r n : ℕ) (c : Contents) (k : Behind) → k.pending ≡ Idle → Ready sc p live s c → 8 ≤ r → r < 20 → r + na ≤ 20 → r + nb ≤ 20
       → length (one decides (length (two (not decides) far r) % 2 ^ 16) r ++ two (not decides) far r) ≤ 32768 →
       CodeAt w n (one decides (length (two (not decides) far r) % 2 ^ 16) r ++ two (not decides) far r) → Aims n (n + length (one decides (length (two (not decides) far r) % 2 ^ 16) r ++ two (not decides) far r)) far to →
       Splits w sc 2 n (ends (not decides) to (n + length (one decides (length (two (not decides) far r) % 2 ^ 16) r ++ two (not decides) far r))) c k (λ z c'. KeepsRegisters r r c c') (x >>= rest)
@@ -446,7 +448,7 @@ module _ (w : World) (sc : Scope) (p : Bases) (s : C0State) (f : Machine w) (are
           (subst (λ m. Splits w sc 1 m (ends (not decides) to end) b k (λ z c'. KeepsRegisters r r c c') y) (sym (at_end decides end n1))
           (split_at w sc 1 n1 (ends (not decides) to (n1 + length js)) (ends (not decides) to end) b k (λ z c'. KeepsRegisters r r c c') y (λ q. same_end (not decides) to _ _ q len)
           (split_says w sc 1 n1 _ b k (λ z c'. KeepsRegisters r r b c') (λ z c'. KeepsRegisters r r c c') y (λ q j h. keeps_on r r c b j g h)
-          (t2 (not decides) far to r n1 b k idle (ready_on sc p s c b (keeps_low r r c b hi g) ready) (code_back w n is js code) lo hb (aims_in n n1 (n1 + length js) far to (omega arith) (aims_at n end (n1 + length js) far to (sym len) aims)))))))
+          (t2 (not decides) far to r n1 b k idle (ready_on sc p live s c b (keeps_low r r c b hi g) ready) (code_back w n is js code) lo hb (aims_in n n1 (n1 + length js) far to (omega arith) (aims_at n end (n1 + length js) far to (sym len) aims)))))))
 
   -- `!`
   negated : (m n : ℕ) (to : Bool → ℕ) (c : Contents) (k : Behind) (Q : Contents → Type 0) (x : Costed Value)
@@ -461,19 +463,19 @@ module _ (w : World) (sc : Scope) (p : Bases) (s : C0State) (f : Machine w) (are
   negated m n to c k Q (costs u (Err (faulted g))) h = h
   negated m n to c k Q (costs u (Err stuck)) h = absurd h
 
-  leaf : (e : CExpr) (t : Ty) → HasNumberedType sc.env e t → t ≡ ty.bool → nodes e ≤ 2000
+  leaf : (e : CExpr) (t : Ty) → HasNumberedType sc.env e t → t ≡ ty.bool → nodes e ≤ 2000 → Covers live (reads e)
       → TestsAs (plain_test (made sc e)) (need e) (truth (value_of e s))
-  leaf e t h q few b far to r n c k idle ready code lo hi aims =
+  leaf e t h q few cover b far to r n c k idle ready code lo hi aims =
       let some = need_some e in
-      plain (made sc e) (need e) (value_of e s) ((subst (Right w sc p s e) q (right w sc p s f area is_typed e t h few)).operand refl) b far to r n c k idle ready code lo (omega arith) hi aims
+      plain (made sc e) (need e) (value_of e s) ((subst (Right w sc p live s e) q (right w sc p live s f area is_typed e t h few cover)).operand refl) b far to r n c k idle ready code lo (omega arith) hi aims
 
   -- a node's own steps are paid by its unit
   node_test : (code : Testing) (need : ℕ) (x : Costed Value)
-      → ((b : Bool) (far to r n : ℕ) (c : Contents) (k : Behind) → k.pending ≡ Idle → Ready sc p s c → CodeAt w n (code b far r) → 8 ≤ r → r + need ≤ 20 → Aims n (n + length (code b far r)) far to → Splits w sc 2 n (ends b to (n + length (code b far r))) c k (λ y c'. KeepsRegisters r r c c') (truth x)) → TestsAs code need (truth (paying 1 x))
+      → ((b : Bool) (far to r n : ℕ) (c : Contents) (k : Behind) → k.pending ≡ Idle → Ready sc p live s c → CodeAt w n (code b far r) → 8 ≤ r → r + need ≤ 20 → Aims n (n + length (code b far r)) far to → Splits w sc 2 n (ends b to (n + length (code b far r))) c k (λ y c'. KeepsRegisters r r c c') (truth x)) → TestsAs code need (truth (paying 1 x))
   node_test code need x h b far to r n c k idle ready there lo hi aims = split_more w sc 0 1 n (ends b to (n + length (code b far r))) c k (λ y c'. KeepsRegisters r r c c') (truth (paying 1 x)) (omega arith) (pays 2 n (ends b to (n + length (code b far r))) c k (λ y c'. KeepsRegisters r r c c') x (omega arith) (h b far to r n c k idle ready there lo hi aims))
 
   equal_tests : (o : BinaryOp) → IsEquality o → (t : Ty) → is_scalar t ≡ true → (m ma mb : Made) (ta tb : Testing) (na nb : ℕ) (x y : Costed Value)
-      → 1 ≤ nb → OperandRuns w sc p s ma na t x → OperandRuns w sc p s mb nb t y
+      → 1 ≤ nb → OperandRuns w sc p live s ma na t x → OperandRuns w sc p live s mb nb t y
       → TestsAs (binary_test o m ma mb ta tb) (binary_need o na nb) (truth (paying 1 (both o x y)))
   equal_tests _ eq t z m ma mb ta tb na nb x y some oa ob = node_test (binary_test Eq m ma mb ta tb) (max na (nb + 1)) _ (λ b far to r n c k idle ready code lo hi aims. compared Eq ma mb na nb t t x y (equal Eq eq t z) oa ob b far to r n c k idle ready code lo (omega arith) (omega arith) some aims)
   equal_tests _ ne t z m ma mb ta tb na nb x y some oa ob = node_test (binary_test Ne m ma mb ta tb) (max na (nb + 1)) _ (λ b far to r n c k idle ready code lo hi aims. compared Ne ma mb na nb t t x y (equal Ne ne t z) oa ob b far to r n c k idle ready code lo (omega arith) (omega arith) some aims)
@@ -493,7 +495,7 @@ module _ (w : World) (sc : Scope) (p : Bases) (s : C0State) (f : Machine w) (are
       → (g : Bool → ℕ → ℕ → List Inst) → immediate_test_of o m ≡ Some g → KnowsTest g y (on_binary o)
   knows_test o m y by known says law g e = by_known m known e
     where
-      by_value : (v : Value) (u : ℕ) → y ≡ costs u (Ok v) → Fits sc.env.structs (layout sc p) ty.int v → (k : ℕ) → word sc p v ≡ k
+      by_value : (v : Value) (u : ℕ) → y ≡ costs u (Ok v) → Fits sc.env.structs (layout sc p) ty.int v → (k : ℕ) → word_of_scalar sc p v ≡ k
           → immediate_test o k ≡ Some g → KnowsTest g y (on_binary o)
       by_value (int v) u is fits k word_is e = record { units = u; value = v; is = is; by = by v; says = λ z. says z v; runs = law v fits g (ap (immediate_test o) word_is ∙ e) }
       by_value (bool v) u is fits k word_is e = absurd fits
@@ -506,8 +508,8 @@ module _ (w : World) (sc : Scope) (p : Bases) (s : C0State) (f : Machine w) (are
       by_known (Some k) known e = let a = known k refl in by_value a.value a.units a.is a.fits k a.word_is e
 
   compare_tests : (im : ImmediateTest) (o : BinaryOp) (ma mb : Made) (na nb : ℕ) (x y : Costed Value) → 1 ≤ na → 1 ≤ nb → Compares o ty.int ty.int
-      → ((g : Bool → ℕ → ℕ → List Inst) → im ≡ Some g → KnowsTest g y (on_binary o)) → OperandRuns w sc p s ma na ty.int x
-      → OperandRuns w sc p s mb nb ty.int y
+      → ((g : Bool → ℕ → ℕ → List Inst) → im ≡ Some g → KnowsTest g y (on_binary o)) → OperandRuns w sc p live s ma na ty.int x
+      → OperandRuns w sc p live s mb nb ty.int y
       → TestsAs (compare_test im o ma mb) (max na (nb + 1)) (truth (paying 1 (x >>= λ v. y >>= λ u. at_no_cost (on_binary o v u))))
   compare_tests (Some g) o ma mb na nb x y more_than some own knows oa ob = node_test (compare_test (Some g) o ma mb) (max na (nb + 1)) _ (λ b far to r n c k idle ready code lo hi aims.
       let v = knows g refl in
@@ -515,8 +517,8 @@ module _ (w : World) (sc : Scope) (p : Bases) (s : C0State) (f : Machine w) (are
       (compared_with g v.by (λ e. on_binary o e (int v.value)) ma na x v.says v.runs oa b far to r n c k idle ready code lo (omega arith) (omega arith) aims))
   compare_tests None o ma mb na nb x y more_than some own knows oa ob = node_test (compare_test None o ma mb) (max na (nb + 1)) _ (λ b far to r n c k idle ready code lo hi aims. compared o ma mb na nb ty.int ty.int x y own oa ob b far to r n c k idle ready code lo (omega arith) (omega arith) some aims)
 
-  order_tests : (o : BinaryOp) → IsOrder o → (m ma mb : Made) (ta tb : Testing) (na nb : ℕ) (x y : Costed Value) → 1 ≤ na → 1 ≤ nb
-      → ((k : ℕ) → mb.known ≡ Some k → KnownAs sc p ty.int k y) → OperandRuns w sc p s ma na ty.int x → OperandRuns w sc p s mb nb ty.int y
+  order_tests : (o : BinaryOp) → IsOrdering o → (m ma mb : Made) (ta tb : Testing) (na nb : ℕ) (x y : Costed Value) → 1 ≤ na → 1 ≤ nb
+      → ((k : ℕ) → mb.known ≡ Some k → KnownAs sc p ty.int k y) → OperandRuns w sc p live s ma na ty.int x → OperandRuns w sc p live s mb nb ty.int y
       → TestsAs (binary_test o m ma mb ta tb) (binary_need o na nb) (truth (paying 1 (both o x y)))
   order_tests _ lt m ma mb ta tb na nb x y more_than some known oa ob = compare_tests (immediate_test_of Lt mb.known) Lt ma mb na nb x y more_than some (ordered Lt lt) (knows_test Lt mb.known y (λ z x. int_lt x z) known (λ x z. refl) by_lt) oa ob
   order_tests _ le m ma mb ta tb na nb x y more_than some known oa ob = compare_tests (immediate_test_of Le mb.known) Le ma mb na nb x y more_than some (ordered Le le) (knows_test Le mb.known y (λ z x. int_le x z) known (λ x z. refl) by_le) oa ob
@@ -529,7 +531,7 @@ module _ (w : World) (sc : Scope) (p : Bases) (s : C0State) (f : Machine w) (are
       → TestsAs (binary_test o m ma mb ta tb) (binary_need o na nb) (truth (paying 1 (both o x y)))
   logic_tests _ and m ma mb ta tb na nb j k x y some la lb few t1 t2 = node_test (binary_test And m ma mb ta tb) (max na nb) _ by_side
     where
-      by_side : (b : Bool) (far to r n : ℕ) (c : Contents) (d : Behind) → d.pending ≡ Idle → Ready sc p s c
+      by_side : (b : Bool) (far to r n : ℕ) (c : Contents) (d : Behind) → d.pending ≡ Idle → Ready sc p live s c
           → CodeAt w n (both_code false b ta tb far r) → 8 ≤ r → r + max na nb ≤ 20 → Aims n (n + length (both_code false b ta tb far r)) far to
           → Splits w sc 2 n (ends b to (n + length (both_code false b ta tb far r))) c d (λ y c'. KeepsRegisters r r c c') (truth (truth x >>= λ b. if b then y else at_no_cost (Ok (bool false))))
       by_side true far to r n c d idle ready code lo hi aims =
@@ -541,7 +543,7 @@ module _ (w : World) (sc : Scope) (p : Bases) (s : C0State) (f : Machine w) (are
           (straight_two false ta tb na nb (truth x) (truth y) (λ b. truth (if b then y else at_no_cost (Ok (bool false)))) t1 t2 refl refl far to r n c d idle ready lo (omega arith) (omega arith) (omega arith) code aims)
   logic_tests _ or m ma mb ta tb na nb j k x y some la lb few t1 t2 = node_test (binary_test Or m ma mb ta tb) (max na nb) _ by_side
     where
-      by_side : (b : Bool) (far to r n : ℕ) (c : Contents) (d : Behind) → d.pending ≡ Idle → Ready sc p s c
+      by_side : (b : Bool) (far to r n : ℕ) (c : Contents) (d : Behind) → d.pending ≡ Idle → Ready sc p live s c
           → CodeAt w n (both_code true b ta tb far r) → 8 ≤ r → r + max na nb ≤ 20 → Aims n (n + length (both_code true b ta tb far r)) far to
           → Splits w sc 2 n (ends b to (n + length (both_code true b ta tb far r))) c d (λ y c'. KeepsRegisters r r c c') (truth (truth x >>= λ b. if b then at_no_cost (Ok (bool true)) else y))
       by_side false far to r n c d idle ready code lo hi aims =
@@ -552,35 +554,35 @@ module _ (w : World) (sc : Scope) (p : Bases) (s : C0State) (f : Machine w) (are
           subst (λ e. Splits w sc 2 n (ends true to (n + length (both_code true true ta tb far r))) c d (λ y c'. KeepsRegisters r r c c') e) (sym (truth_binds (truth x) (λ b. if b then at_no_cost (Ok (bool true)) else y)))
           (straight_two true ta tb na nb (truth x) (truth y) (λ b. truth (if b then at_no_cost (Ok (bool true)) else y)) t1 t2 refl refl far to r n c d idle ready lo (omega arith) (omega arith) (omega arith) code aims)
 
-  operand_of : (e : CExpr) (t : Ty) → is_scalar t ≡ true → HasNumberedType sc.env e t → nodes e ≤ 2000
-      → OperandRuns w sc p s (made sc e) (need e) t (value_of e s)
-  operand_of e t z h few = (right w sc p s f area is_typed e t h few).operand z
+  operand_of : (e : CExpr) (t : Ty) → is_scalar t ≡ true → HasNumberedType sc.env e t → nodes e ≤ 2000 → Covers live (reads e)
+      → OperandRuns w sc p live s (made sc e) (need e) t (value_of e s)
+  operand_of e t z h few cover = (right w sc p live s f area is_typed e t h few cover).operand z
 
   -- THE THEOREM of tests
-  pub tests : (e : CExpr) (t : Ty) → HasNumberedType sc.env e t → t ≡ ty.bool → nodes e ≤ 2000 → TestRuns w sc p s e
-  tests _ _ (a_negation {e = e} h) q few =
-      let inner = tests e ty.bool h refl (omega arith) in
+  pub tests : (e : CExpr) (t : Ty) → HasNumberedType sc.env e t → t ≡ ty.bool → nodes e ≤ 2000 → Covers live (reads e) → TestRuns w sc p live s e
+  tests _ _ (a_negation {e = e} h) q few cover =
+      let inner = tests e ty.bool h refl (omega arith) cover in
       node_test (λ b far r. test_code sc e (not b) far r) (need e) _ (λ b far to r n c k idle ready code lo hi aims.
       let one = inner (not b) far to r n c k idle ready code lo hi aims in
       split_more w sc 1 2 n _ c k (λ y c'. KeepsRegisters r r c c') (truth (value_of e s >>= λ v. at_no_cost (on_unary Not v))) (omega arith)
       (split_at w sc 1 n (λ z. ends (not b) to (n + length (test_code sc e (not b) far r)) (not z)) (ends b to (n + length (test_code sc e (not b) far r))) c k (λ y c'. KeepsRegisters r r c c') (truth (value_of e s >>= λ v. at_no_cost (on_unary Not v))) (turned b to (n + length (test_code sc e (not b) far r)))
       (negated 1 n (ends (not b) to (n + length (test_code sc e (not b) far r))) c k (λ c'. KeepsRegisters r r c c') (value_of e s) one)))
-  tests _ _ (order {s = span} {o = o} {a = a} {b = b} k h g) q few = order_tests o k (made sc (binary span o a b)) (made sc a) (made sc b) (test_code sc a) (test_code sc b) (need a) (need b) (value_of a s) (value_of b s) (need_some a) (need_some b) (λ k e. known_is sc p b ty.int s k g e) (operand_of a ty.int refl h (omega arith)) (operand_of b ty.int refl g (omega arith))
-  tests _ _ (logic {s = span} {o = o} {a = a} {b = b} k h g) q few = logic_tests o k (made sc (binary span o a b)) (made sc a) (made sc b) (test_code sc a) (test_code sc b) (need a) (need b) (nodes a) (nodes b) (value_of a s) (value_of b s) (need_some a) (λ y far r. test_length sc a y far r) (λ y far r. test_length sc b y far r) few (tests a ty.bool h refl (omega arith)) (tests b ty.bool g refl (omega arith))
-  tests _ _ (equality {s = span} {o = o} {a = a} {b = b} {t = t} k z h g) q few = equal_tests o k t z (made sc (binary span o a b)) (made sc a) (made sc b) (test_code sc a) (test_code sc b) (need a) (need b) (value_of a s) (value_of b s) (need_some b) (operand_of a t z h (omega arith)) (operand_of b t z g (omega arith))
-  tests _ _ (null_left {s = whole} {r = span} {o = o} {b = b} {t = t} k g) q few = equal_tests o k (ty.pointer t) refl (made sc (binary whole o (null span) b)) (made sc (null span)) (made sc b) (test_code sc (null span)) (test_code sc b) 1 (need b) (value_of (null span) s) (value_of b s) (need_some b) ((null_right_is w sc p s f area is_typed span t).operand refl) (operand_of b (ty.pointer t) refl g (omega arith))
-  tests _ _ (null_right {s = whole} {r = span} {o = o} {a = a} {t = t} k h) q few = equal_tests o k (ty.pointer t) refl (made sc (binary whole o a (null span))) (made sc a) (made sc (null span)) (test_code sc a) (test_code sc (null span)) (need a) 1 (value_of a s) (value_of (null span) s) (omega arith) (operand_of a (ty.pointer t) refl h (omega arith)) ((null_right_is w sc p s f area is_typed span t).operand refl)
-  tests _ _ (a_variable {x = x} {d = d} h) q few = leaf (var x) d.ty (a_variable h) q few
-  tests _ _ (a_field {s = span} {e = e} {f = g} {d = d} pl h n) q few = leaf (field span e g) d.ty (a_field pl h n) q few
-  tests _ _ (a_target_field {s = span} {e = e} {f = g} {d = d} h n) q few = leaf (arrow span e g) d.ty (a_target_field h n) q few
-  tests _ t (an_element {s = span} {e = e} {i = i} pl h g) q few = leaf (index span e i) t (an_element pl h g) q few
-  tests _ t (a_target {s = span} {e = e} h) q few = leaf (deref span e) t (a_target h) q few
-  tests _ _ (a_true {s = span}) q few = leaf (true_ span) ty.bool a_true q few
-  tests _ _ (a_false {s = span}) q few = leaf (false_ span) ty.bool a_false q few
-  tests _ _ (a_number h) q few = absurd (cc)
-  tests _ _ (an_address pl away h) q few = absurd (cc)
-  tests _ _ (a_negative h) q few = absurd (cc)
-  tests _ _ (arithmetic k h g) q few = absurd (cc)
+  tests _ _ (order {s = span} {o = o} {a = a} {b = b} k h g) q few cover = order_tests o k (made sc (binary span o a b)) (made sc a) (made sc b) (test_code sc a) (test_code sc b) (need a) (need b) (value_of a s) (value_of b s) (need_some a) (need_some b) (λ k e. known_is sc p b ty.int s k g e) (operand_of a ty.int refl h (omega arith) (λ m y. cover m (or_left (reads a m) (reads b m) y))) (operand_of b ty.int refl g (omega arith) (λ m y. cover m (or_right (reads a m) (reads b m) y)))
+  tests _ _ (logic {s = span} {o = o} {a = a} {b = b} k h g) q few cover = logic_tests o k (made sc (binary span o a b)) (made sc a) (made sc b) (test_code sc a) (test_code sc b) (need a) (need b) (nodes a) (nodes b) (value_of a s) (value_of b s) (need_some a) (λ y far r. test_length sc a y far r) (λ y far r. test_length sc b y far r) few (tests a ty.bool h refl (omega arith) (λ m y. cover m (or_left (reads a m) (reads b m) y))) (tests b ty.bool g refl (omega arith) (λ m y. cover m (or_right (reads a m) (reads b m) y)))
+  tests _ _ (equality {s = span} {o = o} {a = a} {b = b} {t = t} k z h g) q few cover = equal_tests o k t z (made sc (binary span o a b)) (made sc a) (made sc b) (test_code sc a) (test_code sc b) (need a) (need b) (value_of a s) (value_of b s) (need_some b) (operand_of a t z h (omega arith) (λ m y. cover m (or_left (reads a m) (reads b m) y))) (operand_of b t z g (omega arith) (λ m y. cover m (or_right (reads a m) (reads b m) y)))
+  tests _ _ (null_left {s = whole} {r = span} {o = o} {b = b} {t = t} k g) q few cover = equal_tests o k (ty.pointer t) refl (made sc (binary whole o (null span) b)) (made sc (null span)) (made sc b) (test_code sc (null span)) (test_code sc b) 1 (need b) (value_of (null span) s) (value_of b s) (need_some b) ((null_right_is w sc p live s f area is_typed span t).operand refl) (operand_of b (ty.pointer t) refl g (omega arith) (λ m y. cover m y))
+  tests _ _ (null_right {s = whole} {r = span} {o = o} {a = a} {t = t} k h) q few cover = equal_tests o k (ty.pointer t) refl (made sc (binary whole o a (null span))) (made sc a) (made sc (null span)) (test_code sc a) (test_code sc (null span)) (need a) 1 (value_of a s) (value_of (null span) s) (omega arith) (operand_of a (ty.pointer t) refl h (omega arith) (λ m y. cover m (or_left (reads a m) false y))) ((null_right_is w sc p live s f area is_typed span t).operand refl)
+  tests _ _ (a_variable {x = x} {d = d} h) q few cover = leaf (var x) d.ty (a_variable h) q few cover
+  tests _ _ (a_field {s = span} {e = e} {f = g} {d = d} pl h n) q few cover = leaf (field span e g) d.ty (a_field pl h n) q few cover
+  tests _ _ (a_target_field {s = span} {e = e} {f = g} {d = d} h n) q few cover = leaf (arrow span e g) d.ty (a_target_field h n) q few cover
+  tests _ t (an_element {s = span} {e = e} {i = i} pl h g) q few cover = leaf (index span e i) t (an_element pl h g) q few cover
+  tests _ t (a_target {s = span} {e = e} h) q few cover = leaf (deref span e) t (a_target h) q few cover
+  tests _ _ (a_true {s = span}) q few cover = leaf (true_ span) ty.bool a_true q few cover
+  tests _ _ (a_false {s = span}) q few cover = leaf (false_ span) ty.bool a_false q few cover
+  tests _ _ (a_number h) q few cover = absurd (cc)
+  tests _ _ (an_address pl away h) q few cover = absurd (cc)
+  tests _ _ (a_negative h) q few cover = absurd (cc)
+  tests _ _ (arithmetic k h g) q few cover = absurd (cc)
 
-  pub given_tests : (e : CExpr) → IsNumberedGiven sc.env e ty.bool → nodes e ≤ 2000 → TestRuns w sc p s e
-  given_tests _ (a_value {e = e} h) few = tests e ty.bool h refl few
+  pub given_tests : (e : CExpr) → IsNumberedGiven sc.env e ty.bool → nodes e ≤ 2000 → Covers live (reads e) → TestRuns w sc p live s e
+  given_tests _ (a_value {e = e} h) few cover = tests e ty.bool h refl few cover

@@ -1,11 +1,12 @@
 -- Where the values of C0 stand in the machine: where regions begin, the words of locations, and values as words.
-use Rattle.std.specs.Prelude.{◌≡◌, ℕ, ◌+◌, ◌*◌, ◌-◌, if◌then◌else◌, List, [], ◌∷◌, replicate}
+use Rattle.std.specs.Prelude.{◌≡◌, ℕ, ◌+◌, ◌*◌, ◌-◌, ◌<◌, Bool, if◌then◌else◌, List, [], ◌∷◌, replicate, Some, slice_get, IsTrue}
 use Rattle.mips_table.specs.Arith.{flag}
 use Rattle.cvm_words.specs.Words.{word_of}
 use Rattle.c0_meaning.specs.Ty.{Ty}
 use Rattle.c0_meaning.specs.Ty as ty
 use Rattle.c0_meaning.specs.Env.{Shape}
 use Rattle.c0_meaning.specs.Words.{fields_named, words}
+use Rattle.c0_meaning.specs.Sizes.{words_before}
 use Rattle.c0_meaning.specs.Addresses.{words_to_part}
 use Rattle.c0_meaning.specs.Value.{Region, globals, heap, locals, Location, Value, int, bool, null, at, group, Values, empty, part}
 use Rattle.c0_meaning.specs.TypedState.{types_of}
@@ -28,10 +29,10 @@ abbrev pub locals_start : Scope → Bases → ℕ
 locals_start sc p = if sc.in_registers then 20 else (p.frame_end - sc.frame) + 3
 
 -- where a region begins
-abbrev pub start_of : Scope → Bases → Region → ℕ
-start_of sc p globals = p.globals
-start_of sc p heap = p.heap
-start_of sc p locals = locals_start sc p
+abbrev pub region_start : Scope → Bases → Region → ℕ
+region_start sc p globals = p.globals
+region_start sc p heap = p.heap
+region_start sc p locals = locals_start sc p
 
 -- the types of a region's variables or objects
 abbrev pub types_in : Scope → Bases → Region → List Ty
@@ -41,15 +42,15 @@ types_in sc p locals = types_of sc.env.locals
 
 -- the word number of a location
 abbrev pub location_word : Scope → Bases → Location → ℕ
-location_word sc p l = start_of sc p l.region + words_to_part sc.env.structs (types_in sc p l.region) l.path
+location_word sc p l = region_start sc p l.region + words_to_part sc.env.structs (types_in sc p l.region) l.path
 
 -- the word of a scalar: a pointer is an address, and null is 0
-abbrev pub word : Scope → Bases → Value → ℕ
-word sc p (int z) = word_of z
-word sc p (bool b) = flag b
-word sc p null = 0
-word sc p (at l) = 4 * location_word sc p l
-word sc p (group vs) = 0
+abbrev pub word_of_scalar : Scope → Bases → Value → ℕ
+word_of_scalar sc p (int z) = word_of z
+word_of_scalar sc p (bool b) = flag b
+word_of_scalar sc p null = 0
+word_of_scalar sc p (at l) = 4 * location_word sc p l
+word_of_scalar sc p (group vs) = 0
 
 -- a value of a type stands in these words from a on, and so do values one after another
 abbrev mutual
@@ -58,7 +59,7 @@ abbrev mutual
   Held sc p m a (ty.array t n) (group vs) = AllHeld sc p m a (replicate n t) vs
   Held sc p m a (ty.named x) _ = ⊥
   Held sc p m a (ty.array t n) _ = ⊥
-  Held sc p m a _ v = m a ≡ word sc p v
+  Held sc p m a _ v = m a ≡ word_of_scalar sc p v
 
   pub AllHeld : Scope → Bases → (ℕ → ℕ) → ℕ → List Ty → Values → Type 0
   AllHeld sc p m a [] empty = Unit {0}
@@ -69,3 +70,10 @@ abbrev mutual
 abbrev pub RegionHeld : Scope → Bases → (ℕ → ℕ) → ℕ → List Ty → Value → Type 0
 RegionHeld sc p m a types (group vs) = AllHeld sc p m a types vs
 RegionHeld sc p m a types _ = ⊥
+
+-- Variables stand from a on, as far as they are live: all of them stand in words of which those of live ones are these.
+pub record LocalsHeld (sc : Scope) (p : Bases) (live : ℕ → Bool) (m : ℕ → ℕ) (a : ℕ) (types : List Ty) (v : Value) : Type 0 where
+  pub whole : ℕ → ℕ
+  pub held : RegionHeld sc p whole a types v
+  pub same : (n : ℕ) (t : Ty) → slice_get types n ≡ Some t → IsTrue (live n) → (k : ℕ) → k < words sc.env.structs t
+      → m (a + words_before sc.env.structs types n + k) ≡ whole (a + words_before sc.env.structs types n + k)

@@ -131,12 +131,12 @@ abbrev pub register_made : ℕ → Made
 register_made q = record { value = λ d r. Addu d q 0 ∷ []; place = no_address; stands = Some q; literal = None; known = None }
 
 -- the register of the variable of a number, where variables stand in registers
-abbrev pub register_of : ℕ → ℕ
-register_of n = (ARGUMENTS + n) % 2 ^ 5
+abbrev pub register_of_variable : ℕ → ℕ
+register_of_variable n = (ARGUMENTS + n) % 2 ^ 5
 
 -- a parameter or local
 abbrev pub local_made : Scope → ℕ → Made
-local_made sc n = if sc.in_registers then register_made (register_of n) else at_place (λ r. local_address sc n)
+local_made sc n = if sc.in_registers then register_made (register_of_variable n) else at_place (λ r. local_address sc n)
 
 -- a variable
 abbrev pub variable_made : Scope → Kind → ℕ → Made
@@ -282,10 +282,10 @@ sum_made None (Some g) a b = only_value (λ d r. one_code (λ q. g d q) b r)
 sum_made None None a b = only_value (λ d r. two_code (λ q t. Addu d q t ∷ []) a b r)
 
 -- whether a side is known to be other than 0
-abbrev pub is_sure : Option ℕ → Bool
-is_sure None = false
-is_sure (Some zero) = false
-is_sure (Some (suc n)) = true
+abbrev pub is_never_zero : Option ℕ → Bool
+is_never_zero None = false
+is_never_zero (Some zero) = false
+is_never_zero (Some (suc n)) = true
 
 -- the test of a divisor, unless it is sure
 abbrev pub divisor_code : Scope → Bool → ℕ → List Inst
@@ -294,7 +294,7 @@ divisor_code sc false t = Bne t 0 1 ∷ J (sc.exit DivZero) ∷ []
 
 -- a division, and what is taken of it
 abbrev pub division_made : Scope → (ℕ → Inst) → Made → Made → Made
-division_made sc takes a b = only_value (λ d r. two_code (λ q t. divisor_code sc (is_sure b.known) t ++ (Divide q t ∷ takes d ∷ [])) a b r)
+division_made sc takes a b = only_value (λ d r. two_code (λ q t. divisor_code sc (is_never_zero b.known) t ++ (Divide q t ∷ takes d ∷ [])) a b r)
 
 -- an operator between its operands
 abbrev pub binary_made : Scope → BinaryOp → Made → Made → Made

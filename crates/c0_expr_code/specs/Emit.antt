@@ -20,7 +20,7 @@ use Rattle.c0_expr_code.specs.declared.scene.Scene.{Scene}
 use Rattle.c0_expr_code.specs.Scope.{Scope}
 use Rattle.c0_expr_code.specs.Scene.{made_in, scope_in}
 use Rattle.c0_expr_code.specs.Code.{AddressingMode, Made, made, low, high, shift_within, POWERS, Immediate, immediate_of, load_code, element_address, element_words, fields_in, length_in}
-use Rattle.c0_expr_code.specs.Code.{one_code, two_code, logic_code, operator_code, operator_made, binary_made, is_sure, divisor_code, operand_code, operand_register, bound_code, constant_code}
+use Rattle.c0_expr_code.specs.Code.{one_code, two_code, logic_code, operator_code, operator_made, binary_made, is_never_zero, divisor_code, operand_code, operand_register, bound_code, constant_code}
 
 -- the words of this code were appended, unless memory was wanting
 abbrev pub Appends : {A E : Type 0} → (old new : List ℕ) → List Inst → Result A E → Type 0
@@ -114,7 +114,7 @@ division_code sc b sure d q t = divisor_code sc sure t ++ (Div q t ∷ taken_ins
 -- that of two expressions in a scene
 abbrev pub quotient_in : Scene → (is_quotient : Bool) → Expr → Expr → (d r : ℕ) → List Inst
 quotient_in scene is_quotient a b d r =
-    two_code (λ q t. division_code (scope_in scene) is_quotient (is_sure (made_in scene b).known) d q t) (made_in scene a) (made_in scene b) r
+    two_code (λ q t. division_code (scope_in scene) is_quotient (is_never_zero (made_in scene b).known) d q t) (made_in scene a) (made_in scene b) r
 
 -- the branch over the right side of `||`, or else of `&&`
 abbrev pub logic_skip : Bool → (r k : ℕ) → Inst

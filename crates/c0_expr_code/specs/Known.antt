@@ -5,7 +5,7 @@ use Rattle.c0_tree.specs.declared.tree.Kind.TheVariants.{Unresolved, Struct, Fie
 use Rattle.c0_tree.specs.declared.tree.UnaryOp.{UnaryOp}
 use Rattle.c0_tree.specs.declared.tree.UnaryOp.TheVariants.{Negate, Not}
 use Rattle.c0_tree.specs.Tree.{CExpr, num, true_, false_, null, var, field, arrow, index, deref, address, unary, binary}
-use Rattle.c0_expr_code.specs.Code.{negated, register_of}
+use Rattle.c0_expr_code.specs.Code.{negated, register_of_variable}
 
 -- the number that is written
 abbrev pub literal_of : CExpr → Option ℕ
@@ -50,7 +50,7 @@ zero_register None = None
 
 -- the register of a variable, where it stands in one
 abbrev pub local_register : Bool → ℕ → Option ℕ
-local_register true n = Some (register_of n)
+local_register true n = Some (register_of_variable n)
 local_register false n = None
 
 abbrev pub variable_register : Bool → Kind → ℕ → Option ℕ

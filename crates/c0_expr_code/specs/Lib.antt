@@ -8,6 +8,7 @@ pub mod Laws
 pub mod Jumps
 pub mod Rows
 pub mod Emit
+pub mod Reads
 pub mod Known
 pub mod Layout
 pub mod Exits

@@ -16,7 +16,7 @@ use Rattle.c0_meaning.specs.TypedState.{StoreTyping, types_of, LeadsFrom, Points
 use Rattle.c0_expr_code.specs.Scope.{Scope}
 use Rattle.c0_expr_code.specs.Code.{Made, operand_code, operand_register, made}
 use Rattle.c0_expr_code.specs.Test.{test_code}
-use Rattle.c0_expr_code.specs.Bases.{words_of_all, Bases, locals_start, types_in, location_word, word, RegionHeld}
+use Rattle.c0_expr_code.specs.Bases.{words_of_all, Bases, locals_start, types_in, location_word, word_of_scalar, RegionHeld, LocalsHeld}
 
 -- the types that pointers may lead to
 abbrev pub layout : Scope → Bases → StoreTyping
@@ -28,14 +28,14 @@ pub record StateIsTyped (sc : Scope) (p : Bases) (s : C0State) : Type 0 where
   pub heap_values : AreParts sc.env.structs (layout sc p) p.objects s.heap_values
   pub local_values : AreParts sc.env.structs (layout sc p) (types_of sc.env.locals) (variables_of s.frames)
 
--- the state stands in the machine: r28 is the globals' address, r29 the frame's end; the variables of a register function stand in
--- the registers from 20 on, as words one after another
-pub record Ready (sc : Scope) (p : Bases) (s : C0State) (c : Contents) : Type 0 where
+-- the state stands in the machine, of its variables those that are live: r28 is the globals' address, r29 the frame's end; the variables
+-- of a register function stand in the registers from 20 on, as words one after another
+pub record Ready (sc : Scope) (p : Bases) (live : ℕ → Bool) (s : C0State) (c : Contents) : Type 0 where
   pub globals_at : c.regs 28 ≡ 4 * p.globals
   pub frame_at : sc.in_registers ≡ false → c.regs 29 ≡ 4 * p.frame_end
   pub global_values : RegionHeld sc p c.memory p.globals (types_of sc.env.globals) s.global_values
   pub heap_values : RegionHeld sc p c.memory p.heap p.objects s.heap_values
-  pub local_values : RegionHeld sc p (if sc.in_registers then c.regs else c.memory) (locals_start sc p) (types_of sc.env.locals) (variables_of s.frames)
+  pub local_values : LocalsHeld sc p live (if sc.in_registers then c.regs else c.memory) (locals_start sc p) (types_of sc.env.locals) (variables_of s.frames)
 
 -- what the code may change: hi and lo, register 1, those from r to 19, and d
 pub record KeepsRegisters (r d : ℕ) (c c' : Contents) : Type 0 where
@@ -61,8 +61,8 @@ pub record Area (w : World) (sc : Scope) (p : Bases) : Type 0 where
       → PointsTo sc.env.structs (layout sc p) m.region m.path t → location_word sc p l ≡ location_word sc p m → l ≡ m
 
 -- the units that an evaluation took
-abbrev pub units_of : {A : Type 0} → Costed A → ℕ
-units_of (costs k r) = k
+abbrev pub evaluation_units : {A : Type 0} → Costed A → ℕ
+evaluation_units (costs k r) = k
 
 -- an evaluation's code goes from n to to with Q, or leaves by the exit of its fault; it takes so many steps and 16 for each unit, and is never stuck
 abbrev pub Evaluates : {A : Type 0} → World → Scope → (own n to : ℕ) → Contents → Behind → (A → Contents → Type 0) → Costed A → Type 0
@@ -73,7 +73,7 @@ Evaluates w sc own n to c d Q (costs k (Err stuck)) = ⊥
 
 -- a value in a register
 pub record HoldsValue (sc : Scope) (p : Bases) (q r d : ℕ) (t : Ty) (c : Contents) (v : Value) (c' : Contents) : Type 0 where
-  pub is : reg c'.regs q ≡ word sc p v
+  pub is : reg c'.regs q ≡ word_of_scalar sc p v
   pub fits : Fits sc.env.structs (layout sc p) t v
   pub keeps : KeepsRegisters r d c c'
 
@@ -92,33 +92,33 @@ pub data Source (r : ℕ) : ℕ → Type 0 where
   far : {q : ℕ} → 20 ≤ q → Source r q
 
 -- A node as value, from any place and any state of the machine in which the state of C0 stands: into d, with free registers from r.
-abbrev pub ValueRuns : World → Scope → Bases → C0State → Made → ℕ → Ty → Costed Value → Type 0
-ValueRuns w sc p s m need t e = (d r n : ℕ) (c : Contents) (k : Behind) → k.pending ≡ Idle → Ready sc p s c → CodeAt w n (m.value d r) → 8 ≤ r
+abbrev pub ValueRuns : World → Scope → Bases → (live : ℕ → Bool) → C0State → Made → ℕ → Ty → Costed Value → Type 0
+ValueRuns w sc p live s m need t e = (d r n : ℕ) (c : Contents) (k : Behind) → k.pending ≡ Idle → Ready sc p live s c → CodeAt w n (m.value d r) → 8 ≤ r
     → r + need ≤ 20 → d ≢ 0 → d ≢ 1
     → Evaluates w sc 0 n (n + length (m.value d r)) c k (HoldsValue sc p d r d t c) e
 
 -- as an operand, where it stands then
-abbrev pub OperandRuns : World → Scope → Bases → C0State → Made → ℕ → Ty → Costed Value → Type 0
-OperandRuns w sc p s m need t e = (r n : ℕ) (c : Contents) (k : Behind) → k.pending ≡ Idle → Ready sc p s c → CodeAt w n (operand_code m r) → 8 ≤ r
+abbrev pub OperandRuns : World → Scope → Bases → (live : ℕ → Bool) → C0State → Made → ℕ → Ty → Costed Value → Type 0
+OperandRuns w sc p live s m need t e = (r n : ℕ) (c : Contents) (k : Behind) → k.pending ≡ Idle → Ready sc p live s c → CodeAt w n (operand_code m r) → 8 ≤ r
     → r + need ≤ 20
     → Source r (operand_register m r) × Evaluates w sc 0 n (n + length (operand_code m r)) c k (HoldsValue sc p (operand_register m r) r r t c) e
 
 -- as a place
-abbrev pub PlaceRuns : World → Scope → Bases → C0State → Made → ℕ → Bool → Ty → Costed Location → Type 0
-PlaceRuns w sc p s m need local t e = (r n : ℕ) (c : Contents) (k : Behind) → k.pending ≡ Idle → Ready sc p s c → CodeAt w n (m.place r).code → 8 ≤ r
+abbrev pub PlaceRuns : World → Scope → Bases → (live : ℕ → Bool) → C0State → Made → ℕ → Bool → Ty → Costed Location → Type 0
+PlaceRuns w sc p live s m need local t e = (r n : ℕ) (c : Contents) (k : Behind) → k.pending ≡ Idle → Ready sc p live s c → CodeAt w n (m.place r).code → 8 ≤ r
     → r + need ≤ 20
     → Source r (m.place r).base × Evaluates w sc 0 n (n + length (m.place r).code) c k (HoldsAddress sc p (m.place r).base (m.place r).displacement r local t c) e
 
 -- all that is said of a node's code: as a value and as an operand, where its type is scalar; and as a place, unless it stands in a register
-pub record Claims (w : World) (sc : Scope) (p : Bases) (s : C0State) (m : Made) (need : ℕ) (placed local : Bool)
+pub record Claims (w : World) (sc : Scope) (p : Bases) (live : ℕ → Bool) (s : C0State) (m : Made) (need : ℕ) (placed local : Bool)
     (t : Ty) (v : Costed Value) (l : Costed Location) : Type 0 where
-  pub value : is_scalar t ≡ true → ValueRuns w sc p s m need t v
-  pub operand : is_scalar t ≡ true → OperandRuns w sc p s m need t v
-  pub place : placed ≡ true → m.stands ≡ None → PlaceRuns w sc p s m need local t l
+  pub value : is_scalar t ≡ true → ValueRuns w sc p live s m need t v
+  pub operand : is_scalar t ≡ true → OperandRuns w sc p live s m need t v
+  pub place : placed ≡ true → m.stands ≡ None → PlaceRuns w sc p live s m need local t l
 
 -- of an expression of a type
-abbrev pub Right : World → Scope → Bases → C0State → CExpr → Ty → Type 0
-Right w sc p s e t = Claims w sc p s (made sc e) (need e) (is_lvalue e) (is_frame_place e) t (value_of e s) (place_of e s)
+abbrev pub Right : World → Scope → Bases → (live : ℕ → Bool) → C0State → CExpr → Ty → Type 0
+Right w sc p live s e t = Claims w sc p live s (made sc e) (need e) (is_lvalue e) (is_frame_place e) t (value_of e s) (place_of e s)
 
 -- an evaluation's code goes to one place or another, by the answer, or leaves by the exit of its fault
 abbrev pub Splits : {A : Type 0} → World → Scope → (own n : ℕ) (to : A → ℕ) → Contents → Behind → (A → Contents → Type 0) → Costed A → Type 0
@@ -140,7 +140,7 @@ pub record Aims (n e far to : ℕ) : Type 0 where
   pub behind : e ≤ to + 32768
 
 -- a test goes where its answer says, within 16 steps a unit, and one more
-abbrev pub TestRuns : World → Scope → Bases → C0State → CExpr → Type 0
-TestRuns w sc p s e = (b : Bool) (far to r n : ℕ) (c : Contents) (k : Behind) → k.pending ≡ Idle → Ready sc p s c
+abbrev pub TestRuns : World → Scope → Bases → (live : ℕ → Bool) → C0State → CExpr → Type 0
+TestRuns w sc p live s e = (b : Bool) (far to r n : ℕ) (c : Contents) (k : Behind) → k.pending ≡ Idle → Ready sc p live s c
     → CodeAt w n (test_code sc e b far r) → 8 ≤ r → r + need e ≤ 20 → Aims n (n + length (test_code sc e b far r)) far to
     → Splits w sc 1 n (ends b to (n + length (test_code sc e b far r))) c k (λ y c'. KeepsRegisters r r c c') (truth (value_of e s))

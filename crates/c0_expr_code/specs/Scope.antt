@@ -2,7 +2,7 @@
 use Rattle.std.specs.Prelude.{ℕ, ◌/◌, Bool, true, false, ◌&&◌, nat_le, length, slice_index}
 use Rattle.std.specs.List.{list_all}
 use Rattle.c0_tree.specs.Tree.{CStmt, assign, call, new, choice, loop, CStmts, done, next, CBody, code, asm, CFunction, CUnit}
-use Rattle.masm.specs.declared.registers.Places.{Places}
+use Rattle.masm.specs.declared.registers.CodeAddresses.{CodeAddresses}
 use Rattle.c0_meaning.specs.Ty.{is_scalar}
 use Rattle.c0_meaning.specs.Env.{Env}
 use Rattle.c0_meaning.specs.Limits.{words_of_frame}
@@ -45,7 +45,7 @@ MAX_REGISTER_VARIABLES = 8
 abbrev pub keeps_registers : CFunction → Bool
 keeps_registers f = is_leaf f.body && (nat_le (length (variable_types f)) MAX_REGISTER_VARIABLES && list_all is_scalar (variable_types f))
 
--- the number of a fault's exit among those of the places
+-- the number of a fault's exit among those of the addresses
 abbrev pub exit_number : KernelFault → ℕ
 exit_number NullUse = 0
 exit_number Bounds = 1
@@ -53,9 +53,9 @@ exit_number DivZero = 2
 exit_number StackOut = 3
 
 -- the word at which a fault leaves
-abbrev pub exit_of : Places → KernelFault → ℕ
-exit_of places fault = slice_index places.faults (exit_number fault) / 4
+abbrev pub exit_of : CodeAddresses → KernelFault → ℕ
+exit_of addresses fault = slice_index addresses.faults (exit_number fault) / 4
 
--- the scope of a function of a unit, where the places are these
-abbrev pub scope_of : CUnit → CFunction → Places → Scope
-scope_of u f places = record { env = env_in u f; in_registers = keeps_registers f; frame = words_of_frame (shapes u) f; exit = exit_of places }
+-- the scope of a function of a unit, where the addresses are these
+abbrev pub scope_of : CUnit → CFunction → CodeAddresses → Scope
+scope_of u f addresses = record { env = env_in u f; in_registers = keeps_registers f; frame = words_of_frame (shapes u) f; exit = exit_of addresses }

@@ -1,7 +1,7 @@
 // Where faults leave.
 
 ghost use Rattle.std.specs.Prelude.{◌≡◌, ◌<◌, ◌^◌, [], ◌∷◌, All};
-ghost use Rattle.masm.specs.Places.{IsJumpTarget};
+ghost use Rattle.masm.specs.CodeAddresses.{IsJumpTarget};
 
 /// The addresses of the exits of faults, in bytes, each below 2^28.
 #[derive(Drop)]

@@ -79,7 +79,7 @@ fn zero_register(known: Option<u32>) -> Option<u32>
 
 // The register of a variable, where variables stand in registers.
 fn register_of(number: u32) -> u32
-    ensures value { result ≡ code.register_of number }
+    ensures value { result ≡ code.register_of_variable number }
     ensures small { result < 32 }
 {
     ((u64::from(ARGUMENTS) + u64::from(number)) % 32) as u32

@@ -1,7 +1,7 @@
 //! The laws of the code of expressions. Each is the contract of a function that does nothing.
 
 ghost use Rattle.c0_expr_code.specs.Laws.{AreasHold, CodesAreShort, CodesInRange, CostsAreFew, ExitsAreNear, ExpressionsRun, GivenRun};
-ghost use Rattle.c0_expr_code.specs.Laws.{HeldElsewhere, HeldStays, NamesAreEnough, PartsFit, StoresHold, StoresRun, TestsRun};
+ghost use Rattle.c0_expr_code.specs.Laws.{HeldElsewhere, HeldStays, NamesAreEnough, PartsFit, PlacesRun, StoresHold, StoresRun, TestsRun};
 ghost use Rattle.mips_table.specs.Code.{World, Sound};
 ghost use Rattle.c0_expr_code.specs.Jumps.{JumpsAreWithin, PatchesAim};
 ghost use Rattle.c0_expr_code.specs.Rows.{AreAddresses, AreSums, AreTests};
@@ -14,6 +14,7 @@ use masm::laws::{jumps_lead, straight_code_runs};
 pub fn expressions_run()
     ensures typed { ExpressionsRun }
     ensures given { GivenRun }
+    ensures places { PlacesRun }
 {
     straight_code_runs();
     jumps_lead();

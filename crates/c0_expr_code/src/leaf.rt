@@ -25,8 +25,8 @@ fn is_scalar(ty: &CType) -> bool
     }
 }
 
-// Whether all of these are scalars.
-fn are_scalars(decls: &[Decl]) -> bool
+/// Whether all of these are scalars.
+pub fn are_scalars(decls: &[Decl]) -> bool
     ensures { result ≡ list_all is_scalar_type (types_of (map typed_of (map decl_view decls.now))) }
 {
     let mut all = true;

@@ -444,7 +444,7 @@ fn emit_addition(
 
 // Whether a known word is other than 0.
 fn is_sure(known: Option<u32>) -> bool
-    ensures { result ≡ spec.is_sure known }
+    ensures { result ≡ spec.is_never_zero known }
 {
     match known {
         Some(word) => word != 0,

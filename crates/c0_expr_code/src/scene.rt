@@ -2,7 +2,7 @@
 
 ghost use Rattle.std.specs.Prelude.{◌≡◌, ◌<◌, ◌+◌, ◌*◌, ◌%◌, ◌^◌, length, IfOk};
 ghost use Rattle.c0_tree.specs.View.{unit_view};
-ghost use Rattle.masm.specs.Places.{ArePlaces};
+ghost use Rattle.masm.specs.CodeAddresses.{AreCodeAddresses};
 ghost use Rattle.c0_meaning.specs.Limits.{words_of_frame as frame_of};
 ghost use Rattle.c0_meaning.specs.Offsets.{offsets};
 ghost use Rattle.c0_meaning.specs.Sound.{shapes};
@@ -16,7 +16,7 @@ use crate::layout::Layout;
 use crate::leaf::keeps_registers;
 use crate::word::wrapped;
 use c0_meaning::{frame_words, variable_offsets};
-use masm::registers::Places;
+use masm::registers::CodeAddresses;
 use std::alloc::{AllocError, Global};
 
 /// A function, and where its variables stand.
@@ -44,13 +44,13 @@ impl<'a> Scene<'a> {
         alloc: Global,
         layout: &'a Layout<'a>,
         function: u32,
-        places: &Places,
+        addresses: &CodeAddresses,
     ) -> Result<Scene<'a>, AllocError>
         requires function { function < length (unit_view layout.now.unit.now).functions }
-        requires places { ArePlaces places.now }
+        requires addresses { AreCodeAddresses addresses.now }
         ensures layout { IfOk result (λ x. x.layout.now ≡ layout.now) }
         ensures function { IfOk result (λ x. x.function ≡ function) }
-        ensures exits { IfOk result (λ x. exits_of x.exits ≡ places.now.faults) }
+        ensures exits { IfOk result (λ x. exits_of x.exits ≡ addresses.now.faults) }
         ensures frame { OfFunction layout.now function (λ f. IfOk result (λ x. x.frame ≡ frame_of (shapes (unit_of layout.now)) f)) }
         ensures registers { OfFunction layout.now function (λ f. IfOk result (λ x. x.in_registers ≡ spec.keeps_registers f)) }
     {
@@ -60,7 +60,7 @@ impl<'a> Scene<'a> {
             variables: variable_offsets(alloc, layout.unit, function)?,
             frame: frame_words(layout.unit, function),
             in_registers: keeps_registers(&layout.unit.unit().functions[function as usize]),
-            exits: FaultExits::new(places.faults),
+            exits: FaultExits::new(addresses.faults),
         })
     }
 }

@@ -2,14 +2,14 @@
 
 ghost use Rattle.std.specs.Prelude.{◌≡◌, ◌<◌, length, IfOk};
 ghost use Rattle.c0_tree.specs.View.{unit_view};
-ghost use Rattle.masm.specs.Places.{ArePlaces};
+ghost use Rattle.masm.specs.CodeAddresses.{AreCodeAddresses};
 ghost use Rattle.c0_expr_code.specs.Layout.{OfFunction, unit_of};
 ghost use Rattle.c0_expr_code.specs.Scene.{scope_in};
 ghost use Rattle.c0_expr_code.specs.Scope.{scope_of};
 
 use crate::layout::Layout;
 use crate::scene::Scene;
-use masm::registers::Places;
+use masm::registers::CodeAddresses;
 use std::alloc::{AllocError, Global};
 
 /// The scene of the function of a number, whose scope is that of the function.
@@ -17,11 +17,11 @@ pub fn begun_scene<'a>(
     alloc: Global,
     layout: &'a Layout<'a>,
     function: u32,
-    places: &Places,
+    addresses: &CodeAddresses,
 ) -> Result<Scene<'a>, AllocError>
     requires function { function < length (unit_view layout.now.unit.now).functions }
-    requires places { ArePlaces places.now }
-    ensures { OfFunction layout.now function (λ f. IfOk result (λ x. scope_in x ≡ scope_of (unit_of layout.now) f places.now)) }
+    requires addresses { AreCodeAddresses addresses.now }
+    ensures { OfFunction layout.now function (λ f. IfOk result (λ x. scope_in x ≡ scope_of (unit_of layout.now) f addresses.now)) }
 {
-    Scene::new(alloc, layout, function, places)
+    Scene::new(alloc, layout, function, addresses)
 }

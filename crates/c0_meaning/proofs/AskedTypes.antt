@@ -8,13 +8,13 @@ use Rattle.c0_tree.specs.Size.{need}
 use Rattle.c0_meaning.specs.Ty.{Ty, pointer, same_ty, is_scalar}
 use Rattle.c0_meaning.specs.Env.{Env}
 use Rattle.c0_meaning.specs.Fault.{fault, WRONG_TYPE, WRONG_COUNT, NOT_A_PLACE, TOO_DEEP}
-use Rattle.c0_meaning.specs.Expression.{has, wrong, type_given, own, one, both, span_of, is_lvalue, is_null, is_pointer, filled, type_of, faults}
+use Rattle.c0_meaning.specs.Expression.{has, wrong, type_given, own, one, both, span_of, is_lvalue, is_null, is_pointer, is_null_for, type_of, faults}
 use Rattle.c0_meaning.specs.Judgement.{HasType, IsGiven, a_value, a_null}
 use Rattle.c0_meaning.specs.Statement.{MAX_NEED, deep_faults, same_rule, given_faults, tested_faults, left_rule, left_verdict, left_type, left_faults, result_faults, args_faults}
 use Rattle.c0_meaning.specs.Rules.{IsLvalue, AreGiven, none, more, IsTested, TestedIsFaultless}
 use Rattle.c0_meaning.proofs.TypeEquality.{same_ty-itself, equal-same_ty}
 use Rattle.c0_meaning.proofs.Operands.{unfilled}
-use Rattle.c0_meaning.proofs.Typed.{typed_is_faultless, typed_no_null, no_faults}
+use Rattle.c0_meaning.proofs.TypedIsFaultless.{typed_is_faultless, typed_no_null, no_faults}
 use Rattle.c0_meaning.proofs.Faultless.{nonempty, left_nil, right_nil, type_is, null_of, pointer_of, faultless_is_typed}
 
 -- a limit is kept exactly where no fault of it stands
@@ -59,13 +59,13 @@ given_clean env e t (a_value h) = subst (Clean env t e) (sym (unfilled (Some t) 
 given_clean env _ _ (a_null {s = s} {t = t}) = same_clean s (pointer t)
 
 pub clean_given : (env : Env) (e : CExpr) (t : Ty) → given_faults env (Some t) e ≡ [] → IsGiven env e t
-clean_given env e t h = by_test (filled (Some t) e) refl h
+clean_given env e t h = by_test (is_null_for (Some t) e) refl h
   where
     parts : (x y : Bool) → (x && y) ≡ true → (x ≡ true) × (y ≡ true)
     parts true y h = (refl, h)
     parts false y h = absurd (cc)
 
-    by_test : (b : Bool) → filled (Some t) e ≡ b → Clean env t e b → IsGiven env e t
+    by_test : (b : Bool) → is_null_for (Some t) e ≡ b → Clean env t e b → IsGiven env e t
     by_test true f h =
         let p = parts (is_null e) (is_pointer (Some t)) f in
         let n = null_of e p.0 in

@@ -1,4 +1,4 @@
--- What a unit means doesn't depend on places in its source: each step of it is that of the unit without places.
+-- What a unit means doesn't depend on spans in its source: each step of it is that of the unit without spans.
 use Rattle.std.proofs.Common.{◌≡◌, ℕ, zero, suc, ◌+◌, List, [], ◌∷◌, map, length, Bool, true, false, nat_lt, Option, Some, None, refl, ap, ap₂, ◌∙◌}
 use Rattle.std.specs.Prelude.{ℤ, ◌==◌, if◌then◌else◌, Ok, Err, ok_or, slice_get, position, option_map, unwrap_or, ◌&&◌, not, bytes_eq, codes}
 use Rattle.std.specs.List.{prefix_len}
@@ -18,12 +18,12 @@ use Rattle.c0_meaning.specs.Value as value
 use Rattle.c0_meaning.specs.State.{C0State, Frame, first_state, stack_words, with_object, pushed}
 use Rattle.c0_meaning.specs.Evaluation.{Costed, costs, paying, ◌>>=◌, at_no_cost, load_from, field_of, pointed, indexed, both, truth, value_of, values_of, place_of}
 use Rattle.c0_meaning.specs.World.{Setting, Cost, units, total, plus, Configuration, with_state, beginning}
-use Rattle.c0_meaning.specs.Running.{Work, act_on, finish, again, leave, begin, Target, into, outward, Step, Go, Stop, push, then_go, store, deliver, enter, call_function, call_with, allocate, test_loop, act_statement, act}
-use Rattle.c0_meaning.specs.Execution.{Outcome, NotYet, then_run, run, run_within, call_first, dispatch}
+use Rattle.c0_meaning.specs.Running.{Work, act_on, finish, again, leave, begin, Target, into, outward, Step, Go, Stop, push, then_go, store, deliver, enter, call_function, call_with, allocate, test_loop, act_statement, work_step}
+use Rattle.c0_meaning.specs.Execution.{Outcome, NotYet, then_run, execute, run_within, call_first, dispatch}
 use Rattle.c0_tree.specs.declared.primitive.Program.TheVariants.{User}
 use Rattle.c0_meaning.specs.UserProgram.{trap, up_to, outcome_seen}
-use Rattle.c0_meaning.specs.ProgramLaws.{ProgramsIgnorePlaces}
-use Rattle.c0_meaning.specs.Bare.{bare_ty, bare_expr, bare_stmt, bare_stmts, bare_decl, bare_struct, bare_body, bare_function, bare, UnitsIgnorePlaces, DispatchesIgnorePlaces}
+use Rattle.c0_meaning.specs.ProgramLaws.{ProgramsIgnoreSpans}
+use Rattle.c0_meaning.specs.Bare.{bare_ty, bare_expr, bare_stmt, bare_stmts, bare_decl, bare_struct, bare_body, bare_function, bare, UnitsIgnoreSpans, DispatchesIgnoreSpans}
 
 mutual
   value_bare : (e : CExpr) (s : C0State) → value_of (bare_expr e) s ≡ value_of e s
@@ -121,7 +121,7 @@ length_bare (f ∷ fs) = ap suc (length_bare fs)
 position_bare : (fs : List CFunction) → position is_dispatch (map bare_function fs) ≡ position is_dispatch fs
 position_bare fs = ap₂ (λ k n. if nat_lt k n then Some k else None) (prefix_bare fs) (length_bare fs)
 
--- work without places
+-- work without spans
 abbrev bare_target : Target → Target
 bare_target (into place rest) = into (bare_expr place) (bare_stmts rest)
 bare_target outward = outward
@@ -227,7 +227,7 @@ module _ (W E : Type 0) (p : Setting W E) where
       by k false = ap (λ v. Go k (push (bare_stmts b) v) c) (push_bare rest w) ∙ go_bare k b (push rest w) c
   statement_bare (loop span test body) rest w c = loop_bare (units 2) test body rest w c
 
-  act_bare : (item : Work) (w : List Work) (c : Configuration W E) → act bared (bare_work item) (map bare_work w) c ≡ bare_step (act p item w c)
+  act_bare : (item : Work) (w : List Work) (c : Configuration W E) → work_step bared (bare_work item) (map bare_work w) c ≡ bare_step (work_step p item w c)
   act_bare (act_on s rest) w c = statement_bare s rest w c
   act_bare (finish place v rest) w c = store_bare (units 0) place v rest w c
   act_bare (again test body rest) w c = loop_bare (units 1) test body rest w c
@@ -239,11 +239,11 @@ module _ (W E : Type 0) (p : Setting W E) where
   after_bare limit used c f g h (Go k w d) = ap (λ o. if nat_lt limit (total (plus used k)) then NotYet used c else o) (h (plus used k) w d)
   after_bare limit used c f g h (Stop k x d) = refl
 
-  run_bare : (s limit : ℕ) (used : Cost) (w : List Work) (c : Configuration W E) → run bared s limit used (map bare_work w) c ≡ run p s limit used w c
+  run_bare : (s limit : ℕ) (used : Cost) (w : List Work) (c : Configuration W E) → execute bared s limit used (map bare_work w) c ≡ execute p s limit used w c
   run_bare zero limit used w c = refl
   run_bare (suc s) limit used [] c = refl
   run_bare (suc s) limit used (item ∷ w) c =
-      ap (λ x. then_run x limit used c (run bared s limit)) (act_bare item w c) ∙ after_bare limit used c (run p s limit) (run bared s limit) (λ k v d. run_bare s limit k v d) (act p item w c)
+      ap (λ x. then_run x limit used c (execute bared s limit)) (act_bare item w c) ∙ after_bare limit used c (execute p s limit) (execute bared s limit) (λ k v d. run_bare s limit k v d) (work_step p item w c)
 
   pub dispatch_bare : (n : ℕ) (cause edata user : ℤ) (s : C0State) (world : W) → dispatch bared n cause edata user s world ≡ dispatch p n cause edata user s world
   dispatch_bare n cause edata user s world =
@@ -274,19 +274,19 @@ main_prefix_bare (f ∷ fs) = ap₂ (λ b n. if b then 1 + n else 0) (ap not (is
 main_bare : (fs : List CFunction) → position is_main (map bare_function fs) ≡ position is_main fs
 main_bare fs = ap₂ (λ k n. if nat_lt k n then Some k else None) (main_prefix_bare fs) (length_bare fs)
 
-pub units_ignore_places : UnitsIgnorePlaces
-units_ignore_places = record {
+pub units_ignore_spans : UnitsIgnoreSpans
+units_ignore_spans = record {
   words = λ u. ap₂ (λ structs ds. all_words structs ds) (shapes_bare u) (typeds_bare u.globals);
   names = λ u. names_bare u.globals;
   first = λ u i. record { global_values = group (zeros_of (shapes_bare u i) (typeds_bare u.globals i)); heap_values = group empty; heap_words = 0; frames = [] };
 }
 
-pub dispatches_ignore_places : (W E : Type 0) → DispatchesIgnorePlaces W E
-dispatches_ignore_places W E p n cause edata user s world = dispatch_bare W E p n cause edata user s world
+pub dispatches_ignore_spans : (W E : Type 0) → DispatchesIgnoreSpans W E
+dispatches_ignore_spans W E p n cause edata user s world = dispatch_bare W E p n cause edata user s world
 
-pub programs_ignore_places : ProgramsIgnorePlaces
-programs_ignore_places u answers n =
+pub programs_ignore_spans : ProgramsIgnoreSpans
+programs_ignore_spans u answers n =
     ap (λ o. up_to answers (outcome_seen o))
-    (ap (λ s. call_first (record { unit = bare u; heap = 1024; stack = 1024; meaning = trap }) n (first_number User (bare u)) empty s answers) (units_ignore_places.first u)
+    (ap (λ s. call_first (record { unit = bare u; heap = 1024; stack = 1024; meaning = trap }) n (first_number User (bare u)) empty s answers) (units_ignore_spans.first u)
     ∙ first_bare (List ℤ) ℤ (record { unit = u; heap = 1024; stack = 1024; meaning = trap }) n (first_number User u) (first_number User (bare u)) empty (first_state u) answers
     (ap (λ o. unwrap_or o 0) (main_bare u.functions)))

@@ -11,7 +11,7 @@ use Rattle.c0_meaning.specs.Env.{Shape, typed_of}
 use Rattle.c0_meaning.specs.Limits.{are_three_ints}
 use Rattle.c0_meaning.specs.Sound.{shapes}
 use Rattle.c0_meaning.proofs.TypeEquality.{equal-same_ty}
-use Rattle.c0_meaning.proofs.Units.{units_are_faultless}
+use Rattle.c0_meaning.proofs.WellTypedUnits.{units_are_faultless}
 use Rattle.c0_meaning.specs.Value.{Value, Values, empty, part}
 use Rattle.c0_meaning.specs.Value as value
 use Rattle.c0_meaning.specs.TypedState.{StoreTyping, types_of, Fits, AllFit, store_typing, IsScalar, RunIsSafe, AnswersTyped}

@@ -9,11 +9,11 @@ use Rattle.c0_tree.specs.Tree.{CName, CExpr, num, true_, false_, null, var, fiel
 use Rattle.c0_meaning.specs.Ty.{Ty, int, bool, pointer, named, array, same_ty, is_scalar}
 use Rattle.c0_meaning.specs.Env.{Env, Typed, Variable, variable_named, field_named}
 use Rattle.c0_meaning.specs.Fault.{Fault, fault, WRONG_TYPE}
-use Rattle.c0_meaning.specs.Expression.{Verdict, has, wrong, own, one, both, span_of, is_lvalue, is_local, is_null, is_pointer, filled, variable_rule, sought_rule, member, target, field_rule, place_field_rule, arrow_rule, element_rule, index_rule, deref_rule, address_rule, unary_rule, ints_rule, bools_rule, alike_rule, binary_rule, compares, operand_type, type_of, faults}
-use Rattle.c0_meaning.specs.Judgement.{IsArithmetic, add, sub, mul, div, rem, IsOrder, lt, le, gt, ge, IsEquality, eq, ne, IsLogical, and, or, HasType, a_number, a_true, a_false, a_variable, a_field, a_target_field, an_element, a_target, an_address, a_negative, a_negation, arithmetic, order, logic, equality, null_left, null_right, FaultlessIsTyped}
+use Rattle.c0_meaning.specs.Expression.{Verdict, has, wrong, own, one, both, span_of, is_lvalue, is_local, is_null, is_pointer, is_null_for, variable_rule, sought_rule, member, target, field_rule, place_field_rule, arrow_rule, element_rule, index_rule, deref_rule, address_rule, unary_rule, ints_rule, bools_rule, alike_rule, binary_rule, compares, operand_type, type_of, faults}
+use Rattle.c0_meaning.specs.Judgement.{IsArithmetic, add, sub, mul, div, rem, IsOrdering, lt, le, gt, ge, IsEquality, eq, ne, IsLogical, and, or, HasType, a_number, a_true, a_false, a_variable, a_field, a_target_field, an_element, a_target, an_address, a_negative, a_negation, arithmetic, order, logic, equality, null_left, null_right, FaultlessIsTyped}
 use Rattle.c0_meaning.proofs.TypeEquality.{equal-same_ty}
 use Rattle.c0_meaning.proofs.Operands.{right_free, Filled, filled_tells}
-use Rattle.c0_meaning.proofs.Typed.{typed_is_faultless}
+use Rattle.c0_meaning.proofs.TypedIsFaultless.{typed_is_faultless}
 
 pub nonempty : {A : Type 0} {f : Fault} {fs : List Fault} → f ∷ fs ≡ [] → A
 nonempty h = absurd (cc)
@@ -50,7 +50,7 @@ of_ints : (env : Env) (s : Span) (o : BinaryOp) (a b : CExpr) (t u : Ty) → IsA
 of_ints env s o a b t u q h k e =
     let p = ints_there s int t u e in (int, arithmetic q (subst (HasType env a) p.0 h) (subst (HasType env b) p.1 k))
 
-of_order : (env : Env) (s : Span) (o : BinaryOp) (a b : CExpr) (t u : Ty) → IsOrder o → HasType env a t → HasType env b u → own (ints_rule s bool t u) ≡ [] → IsTyped env (binary s o a b)
+of_order : (env : Env) (s : Span) (o : BinaryOp) (a b : CExpr) (t u : Ty) → IsOrdering o → HasType env a t → HasType env b u → own (ints_rule s bool t u) ≡ [] → IsTyped env (binary s o a b)
 of_order env s o a b t u q h k e =
     let p = ints_there s bool t u e in (bool, order q (subst (HasType env a) p.0 h) (subst (HasType env b) p.1 k))
 
@@ -186,7 +186,7 @@ Clean env s o a b p q =
     ++ own (both (if p then operand_type o (type_of env b) else type_of env a) (if q then operand_type o (type_of env a) else type_of env b) (binary_rule s o))) ≡ []
 
 of_binary : (env : Env) (s : Span) (o : BinaryOp) (a b : CExpr) → (faults env a ≡ [] → IsTyped env a) → (faults env b ≡ [] → IsTyped env b) → (p q : Bool)
-    → filled (operand_type o (type_of env b)) a ≡ p → filled (operand_type o (type_of env a)) b ≡ q → Clean env s o a b p q → IsTyped env (binary s o a b)
+    → is_null_for (operand_type o (type_of env b)) a ≡ p → is_null_for (operand_type o (type_of env a)) b ≡ q → Clean env s o a b p q → IsTyped env (binary s o a b)
 of_binary env s o a b ia ib false false fp fq x =
     let v = ia (left_nil (faults env a) _ x) in
     let r = right_nil (faults env a) _ x in
@@ -234,4 +234,4 @@ faultless_is_typed env (unary s o e) x =
     let a = faultless_is_typed env e (left_nil (faults env e) _ x) in
     of_unary env s o e a.0 a.1 (open_one env e a.0 (λ t. one t (unary_rule s o)) a.1 (right_nil (faults env e) _ x))
 faultless_is_typed env (binary s o a b) x =
-    of_binary env s o a b (faultless_is_typed env a) (faultless_is_typed env b) (filled (operand_type o (type_of env b)) a) (filled (operand_type o (type_of env a)) b) refl refl x
+    of_binary env s o a b (faultless_is_typed env a) (faultless_is_typed env b) (is_null_for (operand_type o (type_of env b)) a) (is_null_for (operand_type o (type_of env a)) b) refl refl x

@@ -21,7 +21,7 @@ use Rattle.c0_meaning.proofs.StructWords.{rank, rank_below, rank_falls, fields_w
 use Rattle.c0_meaning.specs.Value.{Value, group, empty, repeated, zero_with, zeros_with, zero_within, zero_of, zeros_of}
 use Rattle.c0_meaning.specs.TypedState.{StoreTyping, types_of, Fits, AllFit}
 use Rattle.c0_meaning.specs.RunLaws.{TypesHaveWords, ZerosFit}
-use Rattle.c0_meaning.proofs.Units.{units_are_faultless}
+use Rattle.c0_meaning.proofs.WellTypedUnits.{units_are_faultless}
 
 -- each struct has a field
 abbrev HaveFields : List CStruct → Type 0

@@ -6,7 +6,7 @@ use Rattle.std.proofs.lemmas.Bool.{lt-ltb}
 use Rattle.c0_tree.specs.declared.primitive.Program.{Program}
 use Rattle.c0_tree.specs.Tree.{CFunction, CUnit}
 use Rattle.c0_meaning.specs.DeclaredTypes.{fault_if}
-use Rattle.c0_meaning.specs.Limits.{first_faults, is_first, none_first, whole}
+use Rattle.c0_meaning.specs.Limits.{first_faults, is_first, none_first, whole_span}
 use Rattle.c0_meaning.specs.RunLaws.{HasFirst}
 use Rattle.c0_meaning.specs.Unit.{IsCheckedAs}
 use Rattle.c0_meaning.proofs.Registers.{is_not}
@@ -54,7 +54,7 @@ position_found is fs h =
     (r, e ∙ ap (λ k. Some k) r.first)
 
 -- where the fault isn't, there is one
-present : (b : Bool) (number n : ℕ) → fault_if (not b) number (whole n) ≡ [] → b ≡ true
+present : (b : Bool) (number n : ℕ) → fault_if (not b) number (whole_span n) ≡ [] → b ≡ true
 present true number n e = refl
 present false number n e =
     let q : ◌≡◌ {A = ℕ} 1 0 = ap (λ xs. length xs) e in

@@ -16,13 +16,13 @@ use Rattle.c0_meaning.specs.State.{stack_words, first_state}
 use Rattle.c0_meaning.specs.Words.{words}
 use Rattle.c0_meaning.specs.Operators.{stuck}
 use Rattle.c0_meaning.specs.Evaluation.{Costed, costs, at_no_cost, truth, value_of, values_of, place_of}
-use Rattle.c0_meaning.specs.World.{Setting, Cost, units, total, plus, Configuration, beginning, entries_of, journal}
-use Rattle.c0_meaning.specs.Running.{Target, into, outward, Work, act_on, finish, again, leave, begin, Step, Go, Stop, then_go, store, deliver, enter, call_function, call_with, act}
-use Rattle.c0_meaning.specs.Execution.{Outcome, Done, Failed, NotYet, then_run, run, call_first}
-use Rattle.c0_meaning.specs.UserProgram.{argument, trap, Seen, not_yet, up_to, outcome_seen, prog}
+use Rattle.c0_meaning.specs.World.{Setting, Cost, units, total, plus, Configuration, beginning, all_entries, journal_so_far}
+use Rattle.c0_meaning.specs.Running.{Target, into, outward, Work, act_on, finish, again, leave, begin, Step, Go, Stop, then_go, store, deliver, enter, call_function, call_with, work_step}
+use Rattle.c0_meaning.specs.Execution.{Outcome, Done, Failed, NotYet, then_run, execute, call_first}
+use Rattle.c0_meaning.specs.UserProgram.{trap_argument, trap, Seen, not_yet, up_to, outcome_seen, prog}
 use Rattle.c0_meaning.specs.RunLaws.{HasEnded, stands_at}
 use Rattle.c0_meaning.specs.ProgramLaws.{AnswersAheadDontMatter}
-use Rattle.c0_meaning.proofs.Steps.{extends_run}
+use Rattle.c0_meaning.proofs.StepsTakeUnits.{extends_run}
 
 abbrev Conf : Type 0
 Conf = Configuration (List ℤ) ℤ
@@ -30,19 +30,19 @@ Conf = Configuration (List ℤ) ℤ
 abbrev Stepped : Type 0
 Stepped = Step (List ℤ) ℤ
 
-pub entries_join : {E : Type 0} (a b : List (List E)) → entries_of (a ++ b) ≡ entries_of a ++ entries_of b
+pub entries_join : {E : Type 0} (a b : List (List E)) → all_entries (a ++ b) ≡ all_entries a ++ all_entries b
 entries_join [] b = refl
-entries_join (x ∷ a) b = ap (λ xs. x ++ xs) (entries_join a b) ∙ sym (append_assoc x (entries_of a) (entries_of b))
+entries_join (x ∷ a) b = ap (λ xs. x ++ xs) (entries_join a b) ∙ sym (append_assoc x (all_entries a) (all_entries b))
 
 -- what is seen of an outcome are the arguments where it stands
-pub seen_there : (o : Outcome (List ℤ) ℤ) → (outcome_seen o).arguments ≡ journal (stands_at o)
+pub seen_there : (o : Outcome (List ℤ) ℤ) → (outcome_seen o).arguments ≡ journal_so_far (stands_at o)
 seen_there (Done k c) = refl
 seen_there (Failed k f c) = refl
 seen_there (NotYet k c) = refl
 
 -- the calls so far, and the answers that are left
 abbrev count : Conf → ℕ
-count c = length (journal c) + length c.world
+count c = length (journal_so_far c) + length c.world
 
 module _ (p : Setting (List ℤ) ℤ) (is_trap : p.meaning ≡ trap) (later : List ℤ) where
   -- with later answers
@@ -107,14 +107,14 @@ module _ (p : Setting (List ℤ) ℤ) (is_trap : p.meaning ≡ trap) (later : Li
       by [] (into place rest) = inr (record { a = _; k = _; w = _; v = _; d = _; e = _; x_is = refl; y_is = refl; x_calls = refl; y_calls = refl; none = refl })
       by [] outward = inr (record { a = _; k = _; w = _; v = _; d = _; e = _; x_is = refl; y_is = refl; x_calls = refl; y_calls = refl; none = refl })
       by (z ∷ ws) target = delivers (record c { world = z ∷ ws }) _ target _ w _
-          (let e = ap length (entries_join c.calls ((argument args ∷ []) ∷ [])) ∙ length-append (journal c) (argument args ∷ []) in omega (arith, e))
+          (let e = ap length (entries_join c.calls ((trap_argument args ∷ []) ∷ [])) ∙ length-append (journal_so_far c) (trap_argument args ∷ []) in omega (arith, e))
 
   calls_with : (k : Cost) (kind : Kind) (n : ℕ) (args : Values) (target : Target) (w : List Work) (c : Conf) → Fits c (call_with p k kind n args target w c) (call_with p k kind n args target w (onward c))
   calls_with k Function n args target w c = calls k n args target w c
   calls_with k Primitive n args target w c = asks k n args target w c
   calls_with k _ n args target w c = inl (refl, refl)
 
-  acts : (item : Work) (w : List Work) (c : Conf) → Fits c (act p item w c) (act p item w (onward c))
+  acts : (item : Work) (w : List Work) (c : Conf) → Fits c (work_step p item w c) (work_step p item w (onward c))
   acts (act_on (assign span place v) rest) w c = goes (units 1) c (value_of v c.state) _ _ (λ j x. stores j place x rest w c)
   acts (act_on (call span place call_span function args) rest) w c = goes (units 1) c (values_of args c.state) _ _ (λ j vs. calls_with j function.kind function.number vs (into place rest) w c)
   acts (act_on (new span place t ty_span) rest) w c = either c (nat_lt p.heap (c.state.heap_words + words (shapes p.unit) (ty_of t))) _ _ _ _ (inl (refl, refl)) (inl (refl, refl))
@@ -141,10 +141,10 @@ module _ (p : Setting (List ℤ) ℤ) (is_trap : p.meaning ≡ trap) (later : Li
   abbrev Meets : ℕ → Outcome (List ℤ) ℤ → Outcome (List ℤ) ℤ → Type 0
   Meets given o r = Alike given o r ⊎ Beyond given o r
 
-  grows : (s l : ℕ) (used : Cost) (w : List Work) (c : Conf) → (more : List ℤ) × ((outcome_seen (run p s l used w c)).arguments ≡ journal c ++ more)
+  grows : (s l : ℕ) (used : Cost) (w : List Work) (c : Conf) → (more : List ℤ) × ((outcome_seen (execute p s l used w c)).arguments ≡ journal_so_far c ++ more)
   grows s l used w c =
       let e = extends_run (List ℤ) ℤ p s l used w c in
-      (entries_of e.more, seen_there (run p s l used w c) ∙ ap entries_of e.is ∙ entries_join c.calls e.more)
+      (all_entries e.more, seen_there (execute p s l used w c) ∙ ap all_entries e.is ∙ entries_join c.calls e.more)
 
   abbrev After : Type 0
   After = Cost → List Work → Conf → Outcome (List ℤ) ℤ
@@ -158,7 +158,7 @@ module _ (p : Setting (List ℤ) ℤ) (is_trap : p.meaning ≡ trap) (later : Li
 
   steps : (given l : ℕ) (used : Cost) (c : Conf) (f : After) (x y : Stepped) → count c ≡ given → Fits c x y
       → ((k : Cost) (w : List Work) (d : Conf) → count d ≡ given → Meets given (f k w d) (f k w (onward d)))
-      → ((k : Cost) (w : List Work) (d : Conf) → (more : List ℤ) × ((outcome_seen (f k w d)).arguments ≡ journal d ++ more))
+      → ((k : Cost) (w : List Work) (d : Conf) → (more : List ℤ) × ((outcome_seen (f k w d)).arguments ≡ journal_so_far d ++ more))
       → Meets given (then_run x l used c f) (then_run y l used (onward c) f)
   steps given l used c f (Go k w d) y e (inl s) go grow =
       subst (λ t. Meets given (then_run (Go k w d) l used c f) (then_run t l used (onward c) f)) (sym s.0)
@@ -172,23 +172,23 @@ module _ (p : Setting (List ℤ) ℤ) (is_trap : p.meaning ≡ trap) (later : Li
       (picks given (nat_lt l (total (plus used s.k))) _ _ _ _ (stays given used c e)
       (let g = grow (plus used s.k) s.w s.d in
       let h = grow (plus used s.k) s.v s.e in
-      let size : length (journal c) + length c.world ≡ given = e in
+      let size : length (journal_so_far c) + length c.world ≡ given = e in
       let none : length c.world ≡ 0 = ap length s.none in
-      let long : length (journal c ++ s.a ∷ []) ≡ length (journal c) + 1 = length-append (journal c) (s.a ∷ []) in
+      let long : length (journal_so_far c ++ s.a ∷ []) ≡ length (journal_so_far c) + 1 = length-append (journal_so_far c) (s.a ∷ []) in
       inr (record {
-        first = journal c ++ s.a ∷ [];
+        first = journal_so_far c ++ s.a ∷ [];
         long = omega (arith, long, size, none);
         more = g.0;
         others = h.0;
-        one = g.1 ∙ ap (λ xs. xs ++ g.0) (ap entries_of s.x_calls ∙ entries_join c.calls ((s.a ∷ []) ∷ []));
-        two = h.1 ∙ ap (λ xs. xs ++ h.0) (ap entries_of s.y_calls ∙ entries_join c.calls ((s.a ∷ []) ∷ []));
+        one = g.1 ∙ ap (λ xs. xs ++ g.0) (ap all_entries s.x_calls ∙ entries_join c.calls ((s.a ∷ []) ∷ []));
+        two = h.1 ∙ ap (λ xs. xs ++ h.0) (ap all_entries s.y_calls ∙ entries_join c.calls ((s.a ∷ []) ∷ []));
       }))))
 
-  runs : (given s l : ℕ) (used : Cost) (w : List Work) (c : Conf) → count c ≡ given → Meets given (run p s l used w c) (run p s l used w (onward c))
+  runs : (given s l : ℕ) (used : Cost) (w : List Work) (c : Conf) → count c ≡ given → Meets given (execute p s l used w c) (execute p s l used w (onward c))
   runs given zero l used w c e = stays given used c e
   runs given (suc s) l used [] c e = inl (record { same = refl; few = omega (arith, e) })
   runs given (suc s) l used (item ∷ w) c e =
-      steps given l used c (run p s l) (act p item w c) (act p item w (onward c)) e (acts item w c) (λ k v d h. runs given s l k v d h) (λ k v d. grows s l k v d)
+      steps given l used c (execute p s l) (work_step p item w c) (work_step p item w (onward c)) e (acts item w c) (λ k v d h. runs given s l k v d h) (λ k v d. grows s l k v d)
 
 -- a program's arguments are the first ones, one more than there are answers
 pub cut : (given : List ℤ) (s : Seen) → (up_to given s).arguments ≡ take (suc (length given)) s.arguments

@@ -7,7 +7,7 @@ use Rattle.c0_tree.specs.Tree.{CUnit}
 use Rattle.c0_meaning.specs.Limits.{first_number}
 use Rattle.c0_meaning.specs.Value.{empty}
 use Rattle.c0_meaning.specs.State.{first_state}
-use Rattle.c0_meaning.specs.World.{beginning, entries_of, journal}
+use Rattle.c0_meaning.specs.World.{beginning, all_entries, journal_so_far}
 use Rattle.c0_meaning.specs.Running.{begin}
 use Rattle.c0_meaning.specs.Execution.{Outcome, call_first}
 use Rattle.c0_meaning.specs.UserProgram.{trap, outcome_seen, prog}
@@ -15,7 +15,7 @@ use Rattle.c0_meaning.specs.RunLaws.{HasEnded, stands_at}
 use Rattle.c0_meaning.specs.ProgramLaws.{ArgumentsStay}
 use Rattle.c0_meaning.proofs.LaterAnswers.{entries_join, seen_there, cut}
 use Rattle.c0_meaning.proofs.Programs.{programs_end}
-use Rattle.c0_meaning.proofs.Steps.{calls_extend}
+use Rattle.c0_meaning.proofs.StepsTakeUnits.{calls_extend}
 
 take_front : (k : ℕ) (xs ys : List ℤ) → (more : List ℤ) × (take k (xs ++ ys) ≡ take k xs ++ more)
 take_front zero xs ys = ([], refl)
@@ -39,9 +39,9 @@ extend : (u : CUnit) (given : List ℤ) (m n : ℕ) → m ≤ n → (more : List
 extend u given m n le =
     let ran : ℕ → Outcome (List ℤ) ℤ = λ k. call_first (record { unit = u; heap = 1024; stack = 1024; meaning = trap }) k (first_number User u) empty (first_state u) given in
     let r = calls_extend (List ℤ) ℤ (record { unit = u; heap = 1024; stack = 1024; meaning = trap }) (begin (first_number User u) empty ∷ []) (beginning (record (first_state u) { frames = [] }) given) m n le in
-    let t = take_front (suc (length given)) (journal (stands_at (ran m))) (entries_of r.0) in (
+    let t = take_front (suc (length given)) (journal_so_far (stands_at (ran m))) (all_entries r.0) in (
       t.0,
-      cut given (outcome_seen (ran n)) ∙ ap (take (suc (length given))) (seen_there (ran n) ∙ ap entries_of r.1 ∙ entries_join (stands_at (ran m)).calls r.0)
+      cut given (outcome_seen (ran n)) ∙ ap (take (suc (length given))) (seen_there (ran n) ∙ ap all_entries r.1 ∙ entries_join (stands_at (ran m)).calls r.0)
           ∙ t.1 ∙ ap (λ xs. xs ++ t.0) (ap (take (suc (length given))) (sym (seen_there (ran m))) ∙ sym (cut given (outcome_seen (ran m)))),
     )
 

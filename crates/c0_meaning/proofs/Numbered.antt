@@ -28,8 +28,8 @@ use Rattle.c0_meaning.specs.Unit.{resolved_body, resolved_function, resolved_fun
 use Rattle.c0_meaning.specs.Numbered.{variable_at, callee_at, field_at, is_in_frame, is_frame_place, HasNumberedType, IsNumberedGiven, IsNumberedLeft, AreNumberedGiven, IsNumberedTest, IsNumbered, AreNumbered, IsNumberedBody, NumbersTell}
 use Rattle.c0_meaning.specs.Numbered as number
 use Rattle.c0_meaning.proofs.SearchByName.{found_there}
-use Rattle.c0_meaning.proofs.Typed.{typed_is_faultless}
-use Rattle.c0_meaning.proofs.Units.{units_are_faultless, none_type}
+use Rattle.c0_meaning.proofs.TypedIsFaultless.{typed_is_faultless}
+use Rattle.c0_meaning.proofs.WellTypedUnits.{units_are_faultless, none_type}
 use Rattle.c0_meaning.proofs.WellFormed.{none_in_left, type_resolved}
 
 -- where a variable is declared

@@ -13,7 +13,7 @@ use Rattle.c0_meaning.specs.Sound.{shapes}
 use Rattle.c0_meaning.specs.Typed.{IsTypedStruct}
 use Rattle.c0_meaning.specs.Unit.{IsWellFormed}
 use Rattle.c0_meaning.proofs.StructHolding.{Among, holder_among, holds_as_tested}
-use Rattle.c0_meaning.proofs.Units.{units_are_faultless}
+use Rattle.c0_meaning.proofs.WellTypedUnits.{units_are_faultless}
 
 module _ (made : List ℕ → OpenTy) (count : List ℕ → ℕ) (same : (x : List ℕ) → size (made x) ≡ count x) where
   size_with : (t : Ty) → size (opened_with made t) ≡ words_with count t

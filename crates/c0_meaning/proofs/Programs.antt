@@ -3,11 +3,11 @@ use Rattle.std.proofs.Common.{suc, List, [], ◌∷◌, length, take, Bool, true
 use Rattle.std.specs.Prelude.{ℤ, if◌then◌else◌, unwrap_or, position}
 use Rattle.c0_meaning.specs.Value.{empty}
 use Rattle.c0_meaning.specs.State.{first_state}
-use Rattle.c0_meaning.specs.World.{beginning, journal}
+use Rattle.c0_meaning.specs.World.{beginning, journal_so_far}
 use Rattle.c0_meaning.specs.Running.{begin}
 use Rattle.c0_meaning.specs.Execution.{Outcome, Done, Failed, NotYet, call_first}
 use Rattle.c0_meaning.specs.UserProgram.{trap, is_main, Seen, not_yet, up_to, outcome_seen}
-use Rattle.c0_meaning.proofs.Runs.{more_units}
+use Rattle.c0_meaning.proofs.RunsWithinUnits.{more_units}
 use Rattle.c0_meaning.specs.RunLaws.{HasEnded, ProgramsEnd, IsOver}
 
 -- a program that isn't over, with one list of arguments or another
@@ -21,7 +21,7 @@ not_ended false xs ys h = h
 over : (answers : List ℤ) (o : Outcome (List ℤ) ℤ) → HasEnded (up_to answers (outcome_seen o)).ending → IsOver o
 over answers (Done k c) h = tt
 over answers (Failed k f c) h = tt
-over answers (NotYet k c) h = not_ended (nat_lt (length answers) (length (journal c))) (take (suc (length answers)) (journal c)) (journal c) h
+over answers (NotYet k c) h = not_ended (nat_lt (length answers) (length (journal_so_far c))) (take (suc (length answers)) (journal_so_far c)) (journal_so_far c) h
 
 pub programs_end : ProgramsEnd
 programs_end u answers m n le h =

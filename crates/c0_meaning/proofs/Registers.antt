@@ -13,7 +13,7 @@ use Rattle.mips_table.specs.Decoding.{decoding}
 use Rattle.mips_table.specs.Processor.{write_register}
 use Rattle.c0_meaning.specs.Asm.{may_use, is_allowed, is_allowed_word, are_allowed_words}
 use Rattle.c0_meaning.specs.AsmBody.{registers_after, after_instruction}
-use Rattle.c0_meaning.proofs.Allowed.{left, right, IsNot}
+use Rattle.c0_meaning.proofs.AllowedWords.{left, right, IsNot}
 use Rattle.c0_meaning.specs.RunLaws.{AreSame, LookAtTheirs}
 
 pub is_not : false ≡ true → ⊥

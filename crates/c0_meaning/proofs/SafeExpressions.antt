@@ -21,17 +21,17 @@ use Rattle.c0_meaning.specs.Ty as ty
 use Rattle.c0_meaning.specs.Env.{Env, Typed, Variable, variable_of, variable_named, field_named, first_named}
 use Rattle.c0_meaning.specs.Words.{fields_named}
 use Rattle.c0_meaning.specs.Expression.{is_lvalue, is_local, is_local_kind, type_of, member, target, resolved, numbered_variable, numbered_field}
-use Rattle.c0_meaning.specs.Judgement.{IsArithmetic, add, sub, mul, div, rem, IsOrder, lt, le, gt, ge, IsEquality, eq, ne, IsLogical, and, or, HasType, a_number, a_true, a_false, a_variable, a_field, a_target_field, an_element, a_target, an_address, a_negative, a_negation, arithmetic, order, logic, equality, null_left, null_right, IsGiven, a_value, a_null}
+use Rattle.c0_meaning.specs.Judgement.{IsArithmetic, add, sub, mul, div, rem, IsOrdering, lt, le, gt, ge, IsEquality, eq, ne, IsLogical, and, or, HasType, a_number, a_true, a_false, a_variable, a_field, a_target_field, an_element, a_target, an_address, a_negative, a_negation, arithmetic, order, logic, equality, null_left, null_right, IsGiven, a_value, a_null}
 use Rattle.c0_meaning.specs.Rules.{AreGiven, none, more}
-use Rattle.c0_meaning.proofs.Typed.{typed_is_faultless}
+use Rattle.c0_meaning.proofs.TypedIsFaultless.{typed_is_faultless}
 use Rattle.cvm_words.specs.Words.{quotient, remainder, word_of}
 use Rattle.c0_meaning.specs.Value.{Region, globals, heap, locals, Location, Value, int, bool, null, at, group, Values, count, below}
 use Rattle.c0_meaning.specs.State.{C0State, variables_of, read}
 use Rattle.c0_meaning.specs.Operators.{Failure, Bounds, faulted, stuck, on_unary, on_binary, divided}
 use Rattle.c0_meaning.specs.Evaluation.{Costed, costs, at_no_cost, paying, ◌>>=◌, bool_of, variable_location, pointed_to, element_of, truth, both, load_from, indexed, field_of, pointed, value_of, place_of, values_of}
 use Rattle.c0_meaning.specs.TypedState.{StoreTyping, types_of, PathLeads, LeadsFrom, PointsTo, Fits, AllFit, AreParts}
-use Rattle.c0_meaning.proofs.Parts.{Has, get_parts, leads_from_on, points_on, length_fits}
-use Rattle.c0_meaning.proofs.Ranges.{small, int_of_fits, remainder_fits}
+use Rattle.c0_meaning.proofs.ValueParts.{Has, get_parts, leads_from_on, points_on, length_fits}
+use Rattle.c0_meaning.proofs.OperatorsInRange.{small, int_of_fits, remainder_fits}
 
 -- an evaluation comes to what a rule says of it, or to a fault of the kernel
 abbrev pub Good : {A : Type 0} → (A → Type 0) → Costed A → Type 0
@@ -228,7 +228,7 @@ module _ (env : Env) (layout : StoreTyping) (s : C0State) (scene : SafeState env
   arithmetic_good _ div l r h g = two_good ty.int ty.int ty.int (on_binary Div) l r h g (ints_good ty.int (on_binary Div) (λ a b p q. divided_good quotient (λ a b f k. int_of_fits (word_of (int_div a b))) a b q))
   arithmetic_good _ rem l r h g = two_good ty.int ty.int ty.int (on_binary Rem) l r h g (ints_good ty.int (on_binary Rem) (λ a b p q. divided_good remainder (λ a b f k. remainder_fits a b f k) a b q))
 
-  order_good : (o : BinaryOp) → IsOrder o → (l r : Costed Value) → Good (ValueOf ty.int) l → Good (ValueOf ty.int) r → Good (ValueOf ty.bool) (both o l r)
+  order_good : (o : BinaryOp) → IsOrdering o → (l r : Costed Value) → Good (ValueOf ty.int) l → Good (ValueOf ty.int) r → Good (ValueOf ty.bool) (both o l r)
   order_good _ lt l r h g = two_good ty.int ty.int ty.bool (on_binary Lt) l r h g (ints_good ty.bool (on_binary Lt) (λ a b p q. tt))
   order_good _ le l r h g = two_good ty.int ty.int ty.bool (on_binary Le) l r h g (ints_good ty.bool (on_binary Le) (λ a b p q. tt))
   order_good _ gt l r h g = two_good ty.int ty.int ty.bool (on_binary Gt) l r h g (ints_good ty.bool (on_binary Gt) (λ a b p q. tt))

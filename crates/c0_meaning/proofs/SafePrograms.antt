@@ -12,7 +12,7 @@ use Rattle.mips_table.specs.Arith.{is_int}
 use Rattle.c0_meaning.specs.Value.{Values, empty}
 use Rattle.c0_meaning.specs.State.{first_state}
 use Rattle.c0_meaning.specs.Operators.{faulted, stuck}
-use Rattle.c0_meaning.specs.World.{Setting, journal}
+use Rattle.c0_meaning.specs.World.{Setting, journal_so_far}
 use Rattle.c0_meaning.specs.Execution.{Outcome, Done, Failed, NotYet, call_first}
 use Rattle.c0_meaning.specs.TypedState.{StoreTyping, types_of, AllFit, store_typing, IsScalar, AnswersFit, RunIsSafe}
 use Rattle.c0_meaning.specs.UserProgram.{user_primitives, trap, is_main, Seen, up_to, outcome_seen}
@@ -49,10 +49,10 @@ cut true s t h g = h
 cut false s t h g = g
 
 seen_safe : (u : CUnit) (answers : List ℤ) (o : Outcome (List ℤ) ℤ) → RunIsSafe (λ ws. list_all is_int ws) u o → IsNotStuck (up_to answers (outcome_seen o)).ending
-seen_safe u answers (Done k c) h = cut (nat_lt (length answers) (length (journal c))) _ (outcome_seen (Done k c)) tt tt
-seen_safe u answers (Failed k (faulted f) c) h = cut (nat_lt (length answers) (length (journal c))) _ (outcome_seen (Failed k (faulted f) c)) tt tt
+seen_safe u answers (Done k c) h = cut (nat_lt (length answers) (length (journal_so_far c))) _ (outcome_seen (Done k c)) tt tt
+seen_safe u answers (Failed k (faulted f) c) h = cut (nat_lt (length answers) (length (journal_so_far c))) _ (outcome_seen (Failed k (faulted f) c)) tt tt
 seen_safe u answers (Failed k stuck c) h = absurd h
-seen_safe u answers (NotYet k c) h = cut (nat_lt (length answers) (length (journal c))) _ (outcome_seen (NotYet k c)) tt tt
+seen_safe u answers (NotYet k c) h = cut (nat_lt (length answers) (length (journal_so_far c))) _ (outcome_seen (NotYet k c)) tt tt
 
 pub programs_are_safe : ProgramsAreSafe
 programs_are_safe u answers n well main ints =

@@ -21,19 +21,19 @@ use Rattle.c0_meaning.specs.Typed.{IsTypedUnit, IsTypedBody, IsDeclarable}
 use Rattle.c0_meaning.specs.Unit.{IsWellFormed, resolved_body}
 use Rattle.c0_meaning.specs.Words.{words}
 use Rattle.c0_meaning.proofs.TypeEquality.{equal-same_ty}
-use Rattle.c0_meaning.proofs.Units.{none_type, units_are_faultless}
+use Rattle.c0_meaning.proofs.WellTypedUnits.{none_type, units_are_faultless}
 use Rattle.c0_meaning.specs.Value.{Region, globals, heap, locals, Value, int, null, at, group, Values, followed_by, part_count, with_part, zero_of, zeros_of}
 use Rattle.c0_meaning.specs.State.{Frame, C0State, write, stack_words}
 use Rattle.c0_meaning.specs.Operators.{StackOut, faulted, stuck}
 use Rattle.c0_meaning.specs.Evaluation.{Costed, costs, at_no_cost, truth, value_of, place_of, values_of}
 use Rattle.c0_meaning.specs.AsmBody.{asm_result}
 use Rattle.c0_meaning.specs.World.{Setting, Cost, units, plus, total, Configuration, call_cost, after_call, beginning}
-use Rattle.c0_meaning.specs.Running.{Target, into, outward, Work, act_on, finish, again, leave, begin, Step, Go, Stop, push, then_go, store, deliver, enter, call_function, call_with, allocate, test_loop, act_statement, act}
-use Rattle.c0_meaning.specs.Execution.{Outcome, Failed, NotYet, then_run, run, call_first}
+use Rattle.c0_meaning.specs.Running.{Target, into, outward, Work, act_on, finish, again, leave, begin, Step, Go, Stop, push, then_go, store, deliver, enter, call_function, call_with, allocate, test_loop, act_statement, work_step}
+use Rattle.c0_meaning.specs.Execution.{Outcome, Failed, NotYet, then_run, execute, call_first}
 use Rattle.c0_meaning.specs.TypedState.{StoreTyping, types_of, Fits, AllFit, variable_types, IsTypedFrame, store_typing, IsTypedWith, AreDeclared, AnswersFit, IsSafeAt, RunIsSafe, AnswersTyped}
 use Rattle.c0_meaning.proofs.Fields.{zero_fits, zeros_fit}
-use Rattle.c0_meaning.proofs.Parts.{fits_more, joined_fit}
-use Rattle.c0_meaning.proofs.Ranges.{int_of_fits}
+use Rattle.c0_meaning.proofs.ValueParts.{fits_more, joined_fit}
+use Rattle.c0_meaning.proofs.OperatorsInRange.{int_of_fits}
 use Rattle.c0_meaning.proofs.SafeExpressions.{Good, SafeState, IsAt, given_good, place_good, values_good, bool_good}
 use Rattle.c0_meaning.proofs.SafeStates.{RightValue, RightPlace, RightStatement, RightStatements, first_right, Calls, a_function, a_primitive, callee, callee_is, no_layout, scalar_everywhere, scalars_everywhere, right_function, variables_split, params_types, env_in, scene, written, objects_count, allocated}
 
@@ -351,7 +351,7 @@ module _ (W E : Type 0) (primitives : List CPrimitive) (p : Setting W E) (is_rig
             let e = and_parts (nat_lt (stmts_length body) (2 ^ 32)) (are_plain_stmts body) d.1 in
             looped (units 2) test body rest work (record { given = t.value; settled = r; plain = d.0 }) (record { typed = x; settled = v; plain = e.1 }) more left
 
-    acts_here : (item : Work) (work : List Work) → Left (item ∷ work) → SafeStep (act p item work here)
+    acts_here : (item : Work) (work : List Work) → Left (item ∷ work) → SafeStep (work_step p item work here)
     acts_here (act_on s rest) work h = stated s rest work h.0 h.1 h.2
     acts_here (finish place v rest) work h = stored (units 0) place h.0 v rest work h.1 h.2 h.3 h.4
     acts_here (again test body rest) work h = looped (units 1) test body rest work h.0 h.1 h.2 h.3
@@ -362,7 +362,7 @@ module _ (W E : Type 0) (primitives : List CPrimitive) (p : Setting W E) (is_rig
     acts_here (begin n args) work h = absurd h
 
   acts_in : (objects : List Ty) (gv hv : Value) (hw : ℕ) (frames : List Frame) (world : W) (calls : List (List E)) (answer : Option Value) (item : Work) (work : List Work)
-      → Declared objects (state_of gv hv hw frames) → IsTrue (is_right world) → Ready first primitives p.unit (lay objects) (item ∷ work) frames → SafeStep (act p item work (standing_at gv hv hw frames world calls answer))
+      → Declared objects (state_of gv hv hw frames) → IsTrue (is_right world) → Ready first primitives p.unit (lay objects) (item ∷ work) frames → SafeStep (work_step p item work (standing_at gv hv hw frames world calls answer))
   acts_in objects gv hv hw (g ∷ fs) world calls answer item work typed right ready = acts_here objects gv hv hw g fs world calls answer ready.0 typed right ready.1 item work ready.2
   acts_in objects gv hv hw [] world calls answer (begin n args) [] typed right ready = called objects gv hv hw [] world calls answer (units 0) n ready.0 args outward [] typed right ready.1 ready.2 ready.3
   acts_in objects gv hv hw [] world calls answer (begin n args) (item ∷ work) typed right ready = absurd ready
@@ -371,7 +371,7 @@ module _ (W E : Type 0) (primitives : List CPrimitive) (p : Setting W E) (is_rig
   acts_in objects gv hv hw [] world calls answer (again test body rest) work typed right ready = absurd ready
   acts_in objects gv hv hw [] world calls answer (leave result target) work typed right ready = absurd ready
 
-  acts_safe : (item : Work) (work : List Work) (c : Configuration W E) → Stays (item ∷ work) c → SafeStep (act p item work c)
+  acts_safe : (item : Work) (work : List Work) (c : Configuration W E) → Stays (item ∷ work) c → SafeStep (work_step p item work c)
   acts_safe item work c h = acts_in h.objects c.state.global_values c.state.heap_values c.state.heap_words c.state.frames c.world c.calls c.answer item work h.typed h.right h.ready
 
   stays_safe : (work : List Work) (c : Configuration W E) → Stays work c → IsSafeAt is_right p.unit c
@@ -394,10 +394,10 @@ module _ (W E : Type 0) (primitives : List CPrimitive) (p : Setting W E) (is_rig
       by_test false = (h, tt)
   runs_on (Stop k stuck d) l used c go s h rest = absurd h
 
-  runs_safe : (steps l : ℕ) (used : Cost) (work : List Work) (c : Configuration W E) → Stays work c → Ends (run p steps l used work c)
+  runs_safe : (steps l : ℕ) (used : Cost) (work : List Work) (c : Configuration W E) → Stays work c → Ends (execute p steps l used work c)
   runs_safe zero l used work c h = (stays_safe work c h, tt)
   runs_safe (suc steps) l used [] c h = (stays_safe [] c h, (h.objects, h.typed.0, h.answered))
-  runs_safe (suc steps) l used (item ∷ work) c h = runs_on (act p item work c) l used c (run p steps l) (stays_safe (item ∷ work) c h) (acts_safe item work c h) (λ k w d s. runs_safe steps l k w d s)
+  runs_safe (suc steps) l used (item ∷ work) c h = runs_on (work_step p item work c) l used c (execute p steps l) (stays_safe (item ∷ work) c h) (acts_safe item work c h) (λ k w d s. runs_safe steps l k w d s)
 
   no_frames : (layout : StoreTyping) → All (IsTypedFrame p.unit layout) []
   no_frames layout k d h = absurd (omega (arith, h))

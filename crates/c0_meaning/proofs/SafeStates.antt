@@ -27,11 +27,11 @@ use Rattle.c0_meaning.specs.Statement.{numbered_callee, stmt_resolved, stmts_res
 use Rattle.c0_meaning.specs.Typed.{AreKnown, IsTypedFunction}
 use Rattle.c0_meaning.specs.Unit.{IsWellFormed, resolved_function, resolved_functions, resolved_body}
 use Rattle.c0_meaning.proofs.Faultless.{nonempty}
-use Rattle.c0_meaning.proofs.Units.{units_are_faultless}
+use Rattle.c0_meaning.proofs.WellTypedUnits.{units_are_faultless}
 use Rattle.c0_meaning.specs.Value.{Region, globals, heap, locals, Value, int, bool, null, at, group, Values, empty, part, count, part_count, with_part, value_with}
 use Rattle.c0_meaning.specs.State.{Frame, write}
 use Rattle.c0_meaning.specs.TypedState.{StoreTyping, types_of, Fits, AllFit, AreParts, PointsTo, variable_types, IsTypedFrame, store_typing, IsTypedWith}
-use Rattle.c0_meaning.proofs.Parts.{put_parts, parts_more, joined_fit}
+use Rattle.c0_meaning.proofs.ValueParts.{put_parts, parts_more, joined_fit}
 use Rattle.c0_meaning.proofs.SearchByName.{found_there}
 use Rattle.c0_meaning.proofs.SafeExpressions.{SafeState, Stands}
 

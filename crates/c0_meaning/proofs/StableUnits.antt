@@ -16,7 +16,7 @@ use Rattle.c0_meaning.specs.Ty.{Ty, ty_of}
 use Rattle.c0_meaning.specs.Env.{Shape, shape_of, typed_of, signature_of, Env, env_of}
 use Rattle.c0_meaning.specs.DeclaredTypes.{fault_if, type_faults, declared_faults}
 use Rattle.c0_meaning.specs.Names.{in_source_order, unit_names, unit_name_faults, decl_name_faults}
-use Rattle.c0_meaning.specs.Limits.{is_asm, words_held, locals_of, nodes_of, all_nodes, are_three_ints, is_first, none_first, whole}
+use Rattle.c0_meaning.specs.Limits.{is_asm, words_held, locals_of, nodes_of, all_nodes, are_three_ints, is_first, none_first, whole_span}
 use Rattle.c0_meaning.specs.Resolved.{resolved_type, resolved_decls, resolved_structs}
 use Rattle.c0_meaning.specs.Expression.{resolved}
 use Rattle.c0_meaning.specs.Statement.{stmts_resolved}
@@ -254,7 +254,7 @@ none_first_kept number found other span e = cc
 pub resolving_is_stable : ResolvingIsStable
 resolving_is_stable = record {
   faults = unit_kept;
-  first = λ program primitives u. none_first_kept (none_first program) _ _ (whole u.length) ((unit_functions_kept primitives u).first program);
+  first = λ program primitives u. none_first_kept (none_first program) _ _ (whole_span u.length) ((unit_functions_kept primitives u).first program);
   again = λ primitives u. unit_again primitives (resolved_unit primitives u) (map shape_of u.structs) (units_alike primitives u).structs
       (structs_again (map shape_of u.structs) 0 u.structs) (decls_again (map shape_of u.structs) Global 0 u.globals) (unit_functions_kept primitives u).again;
   plain = unit_plain;

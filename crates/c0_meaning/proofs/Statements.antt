@@ -8,7 +8,7 @@ use Rattle.c0_meaning.specs.Fault.{Fault, fault, WRONG_COUNT}
 use Rattle.c0_meaning.specs.Judgement.{IsGiven}
 use Rattle.c0_meaning.specs.Statement.{MAX_NEED, given_faults, tested_faults, left_type, left_faults, result_faults, callee_faults, parameter_types, args_faults, assign_need, call_need, new_need, assign_faults, call_faults, new_faults, stmt_faults, stmts_faults}
 use Rattle.c0_meaning.specs.Rules.{IsLvalue, AreGiven, IsTyped, an_assignment, a_call, an_object, a_choice, a_loop, AreTyped, no_statement, a_statement, StatementsAreFaultless}
-use Rattle.c0_meaning.proofs.Typed.{no_faults}
+use Rattle.c0_meaning.proofs.TypedIsFaultless.{no_faults}
 use Rattle.c0_meaning.proofs.Faultless.{nonempty, left_nil, right_nil}
 use Rattle.c0_meaning.proofs.AskedTypes.{shallow_clean, clean_shallow, given_clean, clean_given, tested_is_faultless, left_clean, clean_left, args_clean, args_count, clean_args, result_clean, clean_result, count_clean, clean_count}
 

@@ -18,9 +18,9 @@ use Rattle.c0_meaning.specs.State.{stack_words}
 use Rattle.c0_meaning.specs.Words.{words}
 use Rattle.c0_meaning.specs.Operators.{faulted, stuck}
 use Rattle.c0_meaning.specs.Evaluation.{Costed, costs, at_no_cost, truth, value_of, values_of, place_of}
-use Rattle.c0_meaning.specs.World.{PrimitiveMeaning, Setting, Cost, units, total, plus, Configuration, beginning, entries_of, journal, after_call, call_cost}
-use Rattle.c0_meaning.specs.Running.{Target, into, outward, Work, act_on, finish, again, leave, begin, Step, Go, Stop, then_go, store, deliver, enter, call_function, call_with, act}
-use Rattle.c0_meaning.specs.Execution.{Outcome, Done, Failed, NotYet, then_run, run, dispatch}
+use Rattle.c0_meaning.specs.World.{PrimitiveMeaning, Setting, Cost, units, total, plus, Configuration, beginning, all_entries, journal_so_far, after_call, call_cost}
+use Rattle.c0_meaning.specs.Running.{Target, into, outward, Work, act_on, finish, again, leave, begin, Step, Go, Stop, then_go, store, deliver, enter, call_function, call_with, work_step}
+use Rattle.c0_meaning.specs.Execution.{Outcome, Done, Failed, NotYet, then_run, execute, dispatch}
 use Rattle.c0_meaning.specs.RunLaws.{stands_at, DispatchesAreSafe}
 use Rattle.c0_meaning.specs.TypedState.{AnswersFit, RunIsSafe}
 use Rattle.c0_meaning.specs.EntryLaws.{EntriesPass, DispatchesPass}
@@ -38,7 +38,7 @@ module _ (W E : Type 0) (p : Setting W E) (test : E → Bool) where
   told = record { unit = p.unit; heap = p.heap; stack = p.stack; meaning = told_meaning }
 
   abbrev at : Configuration W E → Configuration Told E
-  at c = record { state = c.state; world = (c.world, list_all test (journal c)); calls = c.calls; answer = c.answer }
+  at c = record { state = c.state; world = (c.world, list_all test (journal_so_far c)); calls = c.calls; answer = c.answer }
 
   abbrev step_at : Step W E → Step Told E
   step_at (Go k w d) = Go k w (at d)
@@ -72,10 +72,10 @@ module _ (W E : Type 0) (p : Setting W E) (test : E → Bool) where
   abbrev called_at : Configuration W E → ℕ → Values → Bool → Configuration Told E
   called_at c n args b = record { state = c.state; world = ((p.meaning n args c.world).world, b); calls = c.calls ++ (p.meaning n args c.world).entries ∷ []; answer = c.answer }
 
-  same : (c : Configuration W E) (n : ℕ) (args : Values) → (list_all test (journal c) && list_all test (p.meaning n args c.world).entries) ≡ list_all test (entries_of (c.calls ++ (p.meaning n args c.world).entries ∷ []))
+  same : (c : Configuration W E) (n : ℕ) (args : Values) → (list_all test (journal_so_far c) && list_all test (p.meaning n args c.world).entries) ≡ list_all test (all_entries (c.calls ++ (p.meaning n args c.world).entries ∷ []))
   same c n args =
-      sym (ap (list_all test) (entries_join c.calls ((p.meaning n args c.world).entries ∷ []) ∙ ap (λ xs. journal c ++ xs) (append-nil (p.meaning n args c.world).entries))
-      ∙ list_all-append test (journal c) (p.meaning n args c.world).entries)
+      sym (ap (list_all test) (entries_join c.calls ((p.meaning n args c.world).entries ∷ []) ∙ ap (λ xs. journal_so_far c ++ xs) (append-nil (p.meaning n args c.world).entries))
+      ∙ list_all-append test (journal_so_far c) (p.meaning n args c.world).entries)
 
   asked : (k : Cost) (n : ℕ) (args : Values) (target : Target) (w : List Work) (c : Configuration W E) → call_with told k Primitive n args target w (at c) ≡ step_at (call_with p k Primitive n args target w c)
   asked k n args target w c =
@@ -87,7 +87,7 @@ module _ (W E : Type 0) (p : Setting W E) (test : E → Bool) where
   calls_with k Primitive n args target w c = asked k n args target w c
   calls_with k _ n args target w c = refl
 
-  acts : (item : Work) (w : List Work) (c : Configuration W E) → act told item w (at c) ≡ step_at (act p item w c)
+  acts : (item : Work) (w : List Work) (c : Configuration W E) → work_step told item w (at c) ≡ step_at (work_step p item w c)
   acts (act_on (assign span place v) rest) w c = goes (units 1) c (value_of v c.state) _ _ (λ j x. stores j place x rest w c)
   acts (act_on (call span place call_span function args) rest) w c = goes (units 1) c (values_of args c.state) _ _ (λ j vs. calls_with j function.kind function.number vs (into place rest) w c)
   acts (act_on (new span place t ty_span) rest) w c = either (nat_lt p.heap (c.state.heap_words + words (shapes p.unit) (ty_of t))) _ _ _ _ refl refl
@@ -112,14 +112,14 @@ module _ (W E : Type 0) (p : Setting W E) (test : E → Bool) where
   steps l used c f g (Go k w d) h = choosing (nat_lt l (total (plus used k))) _ _ _ _ refl (h (plus used k) w d)
   steps l used c f g (Stop k x d) h = choosing (nat_lt l (total (plus used k))) _ _ _ _ refl refl
 
-  runs : (s l : ℕ) (used : Cost) (w : List Work) (c : Configuration W E) → run told s l used w (at c) ≡ outcome_at (run p s l used w c)
+  runs : (s l : ℕ) (used : Cost) (w : List Work) (c : Configuration W E) → execute told s l used w (at c) ≡ outcome_at (execute p s l used w c)
   runs zero l used w c = refl
   runs (suc s) l used [] c = refl
   runs (suc s) l used (item ∷ w) c =
-      ap (λ x. then_run x l used (at c) (run told s l)) (acts item w c) ∙ steps l used c (run p s l) (run told s l) (act p item w c) (λ k v d. runs s l k v d)
+      ap (λ x. then_run x l used (at c) (execute told s l)) (acts item w c) ∙ steps l used c (execute p s l) (execute told s l) (work_step p item w c) (λ k v d. runs s l k v d)
 
   -- a run that is safe stands in a right world
-  passed : (is_right : Told → Bool) (u : CUnit) (o : Outcome W E) → RunIsSafe is_right u (outcome_at o) → is_right ((stands_at o).world, list_all test (journal (stands_at o))) ≡ true
+  passed : (is_right : Told → Bool) (u : CUnit) (o : Outcome W E) → RunIsSafe is_right u (outcome_at o) → is_right ((stands_at o).world, list_all test (journal_so_far (stands_at o))) ≡ true
   passed is_right u (Done k c) h = h.1
   passed is_right u (Failed k (faulted f) c) h = h.1
   passed is_right u (Failed k stuck c) h = absurd h
@@ -135,7 +135,7 @@ module _ (W E : Type 0) (p : Setting W E) (test : E → Bool) where
 pub dispatches_pass : (W E : Type 0) → DispatchesAreSafe (W × Bool) E → DispatchesPass W E
 dispatches_pass W E safe is_right test p n cause edata user s world checked fits passes typed a b d right =
     let o : Outcome W E = dispatch p n cause edata user s world in
-    (and_parts (is_right (stands_at o).world) (list_all test (journal (stands_at o)))
+    (and_parts (is_right (stands_at o).world) (list_all test (journal_so_far (stands_at o)))
     (passed W E p test (λ w. is_right w.0 && w.1) p.unit o
     (subst (RunIsSafe (λ w. is_right w.0 && w.1) p.unit)
     (runs W E p test (suc n) n (units 0) (begin (first_number Kernel p.unit) (part (int cause) (part (int edata) (part (int user) empty))) ∷ []) (beginning (record s { frames = [] }) world))

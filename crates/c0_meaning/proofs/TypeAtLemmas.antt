@@ -9,7 +9,7 @@ use Rattle.c0_tree.specs.Primitives.{CPrimitive}
 use Rattle.c0_meaning.specs.Ty.{Ty, int, bool, pointer, named, array}
 use Rattle.c0_meaning.specs.Env.{Typed, env_of}
 use Rattle.c0_meaning.specs.Expression.{target}
-use Rattle.c0_meaning.specs.Judgement.{IsArithmetic, add, sub, mul, div, rem, IsOrder, lt, le, gt, ge, IsEquality, eq, ne, IsLogical, and, or}
+use Rattle.c0_meaning.specs.Judgement.{IsArithmetic, add, sub, mul, div, rem, IsOrdering, lt, le, gt, ge, IsEquality, eq, ne, IsLogical, and, or}
 use Rattle.c0_meaning.specs.Limits.{locals_of}
 use Rattle.c0_meaning.specs.Numbered.{variable_at, HasNumberedType, a_number, a_true, a_false, a_variable, a_field, a_target_field, an_element, a_target, an_address, a_negative, a_negation, arithmetic, order, logic, equality, null_left, null_right}
 use Rattle.c0_meaning.specs.TypeAt.{field_type, element, binary_type, type_at, env_in, TypesAreAtHand}
@@ -22,7 +22,7 @@ arithmetic_gives _ mul = refl
 arithmetic_gives _ div = refl
 arithmetic_gives _ rem = refl
 
-order_gives : (o : BinaryOp) → IsOrder o → binary_type o ≡ bool
+order_gives : (o : BinaryOp) → IsOrdering o → binary_type o ≡ bool
 order_gives _ lt = refl
 order_gives _ le = refl
 order_gives _ gt = refl

@@ -10,11 +10,11 @@ use Rattle.c0_tree.specs.declared.primitive.Program.TheVariants.{Kernel, User}
 use Rattle.c0_tree.specs.Primitives.{primitives_of}
 use Rattle.c0_tree.specs.Tree.{CDecl, CFunction}
 use Rattle.c0_meaning.specs.Ty.{Ty, int, ty_of, same_ty}
-use Rattle.c0_meaning.specs.Limits.{is_asm, are_three_ints, is_first, none_first, first_faults, whole}
+use Rattle.c0_meaning.specs.Limits.{is_asm, are_three_ints, is_first, none_first, first_faults, whole_span}
 use Rattle.c0_meaning.specs.Typed.{IsFirstFunction, HasFirst, ProgramsAreFaultless}
 use Rattle.c0_meaning.specs.Unit.{unit_faults}
 use Rattle.c0_meaning.proofs.TypeEquality.{equal-same_ty}
-use Rattle.c0_meaning.proofs.Units.{units_are_faultless, nothing_said}
+use Rattle.c0_meaning.proofs.WellTypedUnits.{units_are_faultless, nothing_said}
 use Rattle.c0_meaning.proofs.WellFormed.{none_in_left, none_in_right, nothing_wrong}
 
 not_false : (b : Bool) → not b ≡ false → b ≡ true
@@ -114,10 +114,10 @@ programs_are_faultless program u =
     let some = list_any (is_first program) u.functions in (
       λ k.
           ap (λ xs. xs ++ first_faults program u) ((units_are_faultless (primitives_of program) u).0 k.typed)
-          ∙ nothing_said (not some) (none_first program) (whole u.length)
+          ∙ nothing_said (not some) (none_first program) (whole_span u.length)
           (true_not some (there_is program u.functions k.first.number k.first.function k.first.there (passes program k.first.function k.first.right))),
       λ h. record {
         typed = (units_are_faultless (primitives_of program) u).1 (none_in_left (unit_faults (primitives_of program) u) (first_faults program u) h);
-        first = found program u.functions (not_false some (nothing_wrong (not some) (none_first program) (whole u.length) (none_in_right (unit_faults (primitives_of program) u) (first_faults program u) h)));
+        first = found program u.functions (not_false some (nothing_wrong (not some) (none_first program) (whole_span u.length) (none_in_right (unit_faults (primitives_of program) u) (first_faults program u) h)));
       },
     )

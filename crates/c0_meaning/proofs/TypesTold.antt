@@ -13,7 +13,7 @@ use Rattle.c0_meaning.specs.Words.{fields_named}
 use Rattle.c0_meaning.specs.Resolved.{IsResolved}
 use Rattle.c0_meaning.specs.Sound.{IsSized, IsSizedStruct}
 use Rattle.c0_meaning.proofs.SearchByName.{found_there}
-use Rattle.c0_meaning.proofs.Sized.{struct_below, all_at}
+use Rattle.c0_meaning.proofs.SizedTypes.{struct_below, all_at}
 
 pub declared_there : (decls : List Decl) (n : ℕ) (d : Decl) → n < length decls
     → Some (ty_view (get_or decls n d).ty) ≡ option_map (λ (d : Typed). d.ty) (slice_get (map typed_of (map decl_view decls)) n)

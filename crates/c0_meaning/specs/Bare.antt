@@ -1,5 +1,5 @@
--- A unit without the places of its parts in the source: what it means doesn't depend on them. To be used where a tree that is written by hand, without
--- places, is to be compared with that of a text: `bare` of the text's unit is the tree.
+-- A unit without the spans of its parts in the source: what it means doesn't depend on them. To be used where a tree that is written by hand, without
+-- spans, is to be compared with that of a text: `bare` of the text's unit is the tree.
 use Rattle.std.specs.Prelude.{◌≡◌, ℕ, ℤ, map}
 use Rattle.c0_tree.specs.declared.tree.Span.{Span}
 use Rattle.c0_tree.specs.Tree.{CName, CTy, CExpr, num, true_, false_, null, var, field, arrow, index, deref, address, unary, binary, CStmt, assign, call, new, choice, loop, CStmts, done, next, CDecl, CStruct, CBody, code, asm, CFunction, CUnit}
@@ -11,15 +11,15 @@ use Rattle.c0_meaning.specs.State.{C0State, first_state}
 use Rattle.c0_meaning.specs.World.{Setting}
 use Rattle.c0_meaning.specs.Execution.{dispatch}
 
--- no place in a source
+-- no span
 abbrev pub z : Span
 z = record { start = 0; end = 0 }
 
--- a name without places
+-- a name without spans
 abbrev pub bare_name : CName → CName
 bare_name x = record { text = x.text; span = z; kind = x.kind; number = x.number }
 
--- a type without places
+-- a type without spans
 abbrev pub bare_ty : CTy → CTy
 bare_ty tree.int = tree.int
 bare_ty tree.bool = tree.bool
@@ -27,7 +27,7 @@ bare_ty (tree.pointer t) = tree.pointer (bare_ty t)
 bare_ty (tree.named x) = tree.named (bare_name x)
 bare_ty (tree.array t n) = tree.array (bare_ty t) n
 
--- an expression without places
+-- an expression without spans
 abbrev pub bare_expr : CExpr → CExpr
 bare_expr (num s n) = num z n
 bare_expr (true_ s) = true_ z
@@ -55,34 +55,34 @@ abbrev mutual
   bare_stmts done = done
   bare_stmts (next s rest) = next (bare_stmt s) (bare_stmts rest)
 
--- a declaration without places
+-- a declaration without spans
 abbrev pub bare_decl : CDecl → CDecl
 bare_decl d = record { ty = bare_ty d.ty; ty_span = z; name = bare_name d.name }
 
--- a struct without places
+-- a struct without spans
 abbrev pub bare_struct : CStruct → CStruct
 bare_struct s = record { name = bare_name s.name; fields = map bare_decl s.fields }
 
--- a body without places
+-- a body without spans
 abbrev pub bare_body : CBody → CBody
 bare_body (code locals stmts answer) = code (map bare_decl locals) (bare_stmts stmts) (bare_expr answer)
 bare_body (asm text span words) = asm text z words
 
--- a function without places
+-- a function without spans
 abbrev pub bare_function : CFunction → CFunction
 bare_function f = record { answer = bare_ty f.answer; answer_span = z; name = bare_name f.name; params = map bare_decl f.params; body = bare_body f.body }
 
--- a unit without places
+-- a unit without spans
 abbrev pub bare : CUnit → CUnit
 bare u = record { length = 0; structs = map bare_struct u.structs; globals = map bare_decl u.globals; functions = map bare_function u.functions }
 
--- a law: places change neither the data at the start nor its size
-pub record UnitsIgnorePlaces : Type 0 where
+-- a law: spans change neither the data at the start nor its size
+pub record UnitsIgnoreSpans : Type 0 where
   pub words : (u : CUnit) → all_words (shapes (bare u)) (map typed_of (bare u).globals) ≡ all_words (shapes u) (map typed_of u.globals)
   pub names : (u : CUnit) → map (λ d. d.name.text) (bare u).globals ≡ map (λ d. d.name.text) u.globals
   pub first : (u : CUnit) → first_state (bare u) ≡ first_state u
 
 -- a law: nor what a dispatch comes to
-abbrev pub DispatchesIgnorePlaces : (W E : Type 0) → Type 0
-DispatchesIgnorePlaces W E = (p : Setting W E) (n : ℕ) (cause edata user : ℤ) (s : C0State) (world : W)
+abbrev pub DispatchesIgnoreSpans : (W E : Type 0) → Type 0
+DispatchesIgnoreSpans W E = (p : Setting W E) (n : ℕ) (cause edata user : ℤ) (s : C0State) (world : W)
     → dispatch (record p { unit = bare p.unit }) n cause edata user s world ≡ dispatch p n cause edata user s world

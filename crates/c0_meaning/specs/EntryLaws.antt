@@ -5,7 +5,7 @@ use Rattle.std.specs.Int.{w32}
 use Rattle.c0_tree.specs.Primitives.{CPrimitive, kernel_primitives}
 use Rattle.c0_meaning.specs.Value.{Values}
 use Rattle.c0_meaning.specs.State.{C0State}
-use Rattle.c0_meaning.specs.World.{PrimitiveMeaning, Setting, journal}
+use Rattle.c0_meaning.specs.World.{PrimitiveMeaning, Setting, journal_so_far}
 use Rattle.c0_meaning.specs.Execution.{dispatch}
 use Rattle.c0_meaning.specs.RunLaws.{stands_at}
 use Rattle.c0_meaning.specs.TypedState.{AreScalars, IsTypedState, AnswersFit}
@@ -22,4 +22,4 @@ DispatchesPass W E =
     (is_right : W → Bool) (test : E → Bool) (p : Setting W E) (n : ℕ) (cause edata user : ℤ) (s : C0State) (world : W)
     → IsChecked p.unit → AnswersFit is_right kernel_primitives p.meaning → EntriesPass is_right test kernel_primitives p.meaning → IsTypedState p.unit s
     → FitsSigned w32 cause → FitsSigned w32 edata → FitsSigned w32 user → IsTrue (is_right world)
-    → IsTrue (list_all test (journal (stands_at (dispatch p n cause edata user s world))))
+    → IsTrue (list_all test (journal_so_far (stands_at (dispatch p n cause edata user s world))))

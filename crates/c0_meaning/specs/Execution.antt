@@ -7,7 +7,7 @@ use Rattle.c0_meaning.specs.Value.{int, Values, empty, part}
 use Rattle.c0_meaning.specs.State.{C0State}
 use Rattle.c0_meaning.specs.Operators.{Failure}
 use Rattle.c0_meaning.specs.World.{Setting, Cost, units, total, plus, Configuration, beginning}
-use Rattle.c0_meaning.specs.Running.{Work, begin, Step, Go, Stop, push, act}
+use Rattle.c0_meaning.specs.Running.{Work, begin, Step, Go, Stop, push, work_step}
 
 -- how a run stands: it is done, it failed, or its next step would pass the limit; with what it cost so far and its configuration
 pub data Outcome (W E : Type 0) : Type 0 where
@@ -21,14 +21,14 @@ then_run (Go cost work d) limit used c run = if nat_lt limit (total (plus used c
 then_run (Stop cost f d) limit used c run = if nat_lt limit (total (plus used cost)) then NotYet used c else Failed (plus used cost) f d
 
 -- at most so many steps, within so many units, of work that is left to do
-abbrev pub run : {W E : Type 0} → Setting W E → (steps limit : ℕ) → Cost → List Work → Configuration W E → Outcome W E
-run p zero limit used work c = NotYet used c
-run p (suc steps) limit used [] c = Done used c
-run p (suc steps) limit used (item ∷ work) c = then_run (act p item work c) limit used c (run p steps limit)
+abbrev pub execute : {W E : Type 0} → Setting W E → (steps limit : ℕ) → Cost → List Work → Configuration W E → Outcome W E
+execute p zero limit used work c = NotYet used c
+execute p (suc steps) limit used [] c = Done used c
+execute p (suc steps) limit used (item ∷ work) c = then_run (work_step p item work c) limit used c (execute p steps limit)
 
 -- work that is done within n units: each step takes one at least, so n + 1 steps are enough
 abbrev pub run_within : {W E : Type 0} → Setting W E → (n : ℕ) → List Work → Configuration W E → Outcome W E
-run_within p n work c = run p (suc n) n (units 0) work c
+run_within p n work c = execute p (suc n) n (units 0) work c
 
 -- statements, from a state and a world's value, within n units
 abbrev pub exec : {W E : Type 0} → Setting W E → (n : ℕ) → CStmts → C0State → W → Outcome W E

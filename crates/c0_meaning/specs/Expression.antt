@@ -124,16 +124,16 @@ is_pointer (Some (named x)) = false
 is_pointer (Some (array t n)) = false
 
 -- whether an expression is a `null` of which a particular pointer type is asked
-abbrev pub filled : Option Ty → CExpr → Bool
-filled want e = is_null e && is_pointer want
+abbrev pub is_null_for : Option Ty → CExpr → Bool
+is_null_for want e = is_null e && is_pointer want
 
 -- an expression's type where a type is asked: such a `null` has it
 abbrev pub type_asked : Option Ty → CExpr → Option Ty → Option Ty
-type_asked want e type = if filled want e then want else type
+type_asked want e type = if is_null_for want e then want else type
 
 -- an expression's faults where a type is asked: such a `null` has none
 abbrev pub asked_faults : Option Ty → CExpr → List Fault → List Fault
-asked_faults want e faults = if filled want e then [] else faults
+asked_faults want e faults = if is_null_for want e then [] else faults
 
 -- a variable that was sought
 abbrev pub variable_rule : CName → Option Variable → Verdict

@@ -18,11 +18,11 @@ pub data IsArithmetic : BinaryOp → Type 0 where
   rem : IsArithmetic Rem
 
 -- `< <= > >=`
-pub data IsOrder : BinaryOp → Type 0 where
-  lt : IsOrder Lt
-  le : IsOrder Le
-  gt : IsOrder Gt
-  ge : IsOrder Ge
+pub data IsOrdering : BinaryOp → Type 0 where
+  lt : IsOrdering Lt
+  le : IsOrdering Le
+  gt : IsOrdering Gt
+  ge : IsOrdering Ge
 
 -- `== !=`
 pub data IsEquality : BinaryOp → Type 0 where
@@ -54,7 +54,7 @@ pub data HasType (env : Env) : CExpr → Ty → Type 0 where
   arithmetic : {s : Span} {o : BinaryOp} {a b : CExpr}
       → IsArithmetic o → HasType env a int → HasType env b int → HasType env (binary s o a b) int
   order : {s : Span} {o : BinaryOp} {a b : CExpr}
-      → IsOrder o → HasType env a int → HasType env b int → HasType env (binary s o a b) bool
+      → IsOrdering o → HasType env a int → HasType env b int → HasType env (binary s o a b) bool
   logic : {s : Span} {o : BinaryOp} {a b : CExpr}
       → IsLogical o → HasType env a bool → HasType env b bool → HasType env (binary s o a b) bool
   equality : {s : Span} {o : BinaryOp} {a b : CExpr} {t : Ty}

@@ -80,8 +80,8 @@ abbrev pub first_number : Program → CUnit → ℕ
 first_number program u = unwrap_or (position (is_first program) u.functions) 0
 
 -- the span of a whole source
-abbrev pub whole : ℕ → Span
-whole length = record { start = 0; end = length }
+abbrev pub whole_span : ℕ → Span
+whole_span length = record { start = 0; end = length }
 
 -- the faults of a function's size
 abbrev pub size_faults : CFunction → List Fault
@@ -92,8 +92,8 @@ size_faults f =
 -- the faults of a unit's size
 abbrev pub unit_size_faults : CUnit → List Fault
 unit_size_faults u =
-    fault_if (nat_lt MAX_UNIT_NODES (all_nodes u.functions)) UNIT_TOO_LARGE (whole u.length)
-    ++ fault_if (nat_lt MAX_GLOBAL_WORDS (all_words (map shape_of u.structs) (map typed_of u.globals))) GLOBALS_TOO_LARGE (whole u.length)
+    fault_if (nat_lt MAX_UNIT_NODES (all_nodes u.functions)) UNIT_TOO_LARGE (whole_span u.length)
+    ++ fault_if (nat_lt MAX_GLOBAL_WORDS (all_words (map shape_of u.structs) (map typed_of u.globals))) GLOBALS_TOO_LARGE (whole_span u.length)
 
 -- what is wrong with a unit that has no function with which its run begins
 abbrev pub none_first : Program → ℕ
@@ -102,4 +102,4 @@ none_first User = NO_MAIN
 
 -- the fault of such a unit
 abbrev pub first_faults : Program → CUnit → List Fault
-first_faults program u = fault_if (not (list_any (is_first program) u.functions)) (none_first program) (whole u.length)
+first_faults program u = fault_if (not (list_any (is_first program) u.functions)) (none_first program) (whole_span u.length)

@@ -14,7 +14,7 @@ use Rattle.c0_meaning.specs.Ty.{Ty, int, bool, pointer, named, array, ty_of, is_
 use Rattle.c0_meaning.specs.Env.{Env, Typed, Signature, env_of}
 use Rattle.c0_meaning.specs.Words.{fields_named}
 use Rattle.c0_meaning.specs.Expression.{is_lvalue}
-use Rattle.c0_meaning.specs.Judgement.{IsArithmetic, IsOrder, IsEquality, IsLogical}
+use Rattle.c0_meaning.specs.Judgement.{IsArithmetic, IsOrdering, IsEquality, IsLogical}
 use Rattle.c0_meaning.specs.Limits.{locals_of}
 use Rattle.c0_meaning.specs.Resolved.{IsResolved}
 use Rattle.c0_meaning.specs.Statement.{MAX_NEED, assign_need, call_need, new_need}
@@ -90,7 +90,7 @@ pub data HasNumberedType (env : Env) : CExpr → Ty → Type 0 where
   arithmetic : {s : Span} {o : BinaryOp} {a b : CExpr}
       → IsArithmetic o → HasNumberedType env a int → HasNumberedType env b int → HasNumberedType env (binary s o a b) int
   order : {s : Span} {o : BinaryOp} {a b : CExpr}
-      → IsOrder o → HasNumberedType env a int → HasNumberedType env b int → HasNumberedType env (binary s o a b) bool
+      → IsOrdering o → HasNumberedType env a int → HasNumberedType env b int → HasNumberedType env (binary s o a b) bool
   logic : {s : Span} {o : BinaryOp} {a b : CExpr}
       → IsLogical o → HasNumberedType env a bool → HasNumberedType env b bool → HasNumberedType env (binary s o a b) bool
   equality : {s : Span} {o : BinaryOp} {a b : CExpr} {t : Ty}

@@ -1,4 +1,4 @@
--- LAWS of what is seen of a user program: what it asks first depends neither on later answers nor on how many units it has, nor on places in its source.
+-- LAWS of what is seen of a user program: what it asks first depends neither on later answers nor on how many units it has, nor on spans in its source.
 use Rattle.std.specs.Prelude.{◌≡◌, ℕ, suc, ◌<◌, ◌≤◌, ℤ, List, [], ◌∷◌, ◌++◌, length, take, Some, slice_get}
 use Rattle.c0_tree.specs.declared.primitive.Program.TheVariants.{User}
 use Rattle.c0_tree.specs.Tree.{CUnit}
@@ -8,7 +8,7 @@ use Rattle.c0_meaning.specs.Value.{empty}
 use Rattle.c0_meaning.specs.State.{first_state}
 use Rattle.c0_meaning.specs.World.{Setting, Configuration, beginning}
 use Rattle.c0_meaning.specs.Running.{begin}
-use Rattle.c0_meaning.specs.Reasoning.{IsPrefix, MakesEntries}
+use Rattle.c0_meaning.specs.Reasoning.{IsBeginningOf, MakesEntries}
 use Rattle.c0_meaning.specs.UserProgram.{trap, prog}
 use Rattle.c0_meaning.specs.RunLaws.{HasEnded}
 
@@ -25,9 +25,9 @@ pub record ArgumentsStay : Type 0 where
   pub ended : (u : CUnit) (given : List ℤ) (m n i : ℕ) (a : ℤ) → HasEnded (prog u given m).ending → slice_get (prog u given n).arguments i ≡ Some a → i < length (prog u given m).arguments
   pub same_end : (u : CUnit) (given : List ℤ) (m n : ℕ) → HasEnded (prog u given m).ending → HasEnded (prog u given n).ending → prog u given m ≡ prog u given n
 
--- a law: a unit without its places in the source is the program that the unit is
-abbrev pub ProgramsIgnorePlaces : Type 0
-ProgramsIgnorePlaces = (u : CUnit) (answers : List ℤ) (n : ℕ) → prog (bare u) answers n ≡ prog u answers n
+-- a law: a unit without its spans in the source is the program that the unit is
+abbrev pub ProgramsIgnoreSpans : Type 0
+ProgramsIgnoreSpans = (u : CUnit) (answers : List ℤ) (n : ℕ) → prog (bare u) answers n ≡ prog u answers n
 
 -- where a program begins
 abbrev pub program_setting : CUnit → Setting (List ℤ) ℤ
@@ -39,4 +39,4 @@ program_start u given = beginning (record (first_state u) { frames = [] }) given
 -- a law: entries that the run of `main` makes are arguments that the program asks, as many as there are answers and one more
 abbrev pub MadeIsAsked : Type 0
 MadeIsAsked = (u : CUnit) (given es : List ℤ) (n : ℕ) → MakesEntries (program_setting u) n (begin (first_number User u) empty ∷ []) (program_start u given) es
-    → IsPrefix (take (suc (length given)) es) (prog u given n).arguments
+    → IsBeginningOf (take (suc (length given)) es) (prog u given n).arguments

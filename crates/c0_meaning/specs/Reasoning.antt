@@ -5,8 +5,8 @@ use Rattle.c0_meaning.specs.Env.{typed_of}
 use Rattle.c0_meaning.specs.Sound.{shapes}
 use Rattle.c0_meaning.specs.Value.{Values, group, followed_by, zeros_of}
 use Rattle.c0_meaning.specs.State.{pushed}
-use Rattle.c0_meaning.specs.World.{Setting, Cost, units, total, plus, Configuration, journal, with_state}
-use Rattle.c0_meaning.specs.Running.{Work, Step, Go, Stop, act}
+use Rattle.c0_meaning.specs.World.{Setting, Cost, units, total, plus, Configuration, journal_so_far, with_state}
+use Rattle.c0_meaning.specs.Running.{Work, Step, Go, Stop, work_step}
 use Rattle.c0_meaning.specs.Execution.{Outcome, Done, Failed, NotYet, run_within}
 use Rattle.c0_meaning.specs.RunLaws.{stands_at}
 
@@ -18,36 +18,36 @@ DoneWith (NotYet used c) Q = ⊥
 
 -- WORK IS DONE from here within n units: it doesn't fail, it ends, and then the property holds. Of code without a choice that is open it
 -- computes to the property itself.
-abbrev pub Ends : {W E : Type 0} → Setting W E → (n : ℕ) → List Work → Configuration W E → (Configuration W E → Type 0) → Type 0
-Ends p n work c Q = DoneWith (run_within p n work c) Q
+abbrev pub EndsIn : {W E : Type 0} → Setting W E → (n : ℕ) → List Work → Configuration W E → (Configuration W E → Type 0) → Type 0
+EndsIn p n work c Q = DoneWith (run_within p n work c) Q
 
 -- a list begins with these
-pub record IsPrefix {E : Type 0} (es all : List E) : Type 0 where
+pub record IsBeginningOf {E : Type 0} (es all : List E) : Type 0 where
   pub more : List E
   pub is : all ≡ es ++ more
 
 -- THESE ENTRIES ARE MADE within n units from here on: the journal begins with them then, with those that were made before, whether the run is over or goes
 -- on. For a program that serves for ever, whose entries are the arguments of its calls. proofs/ServingRules has the rules.
 abbrev pub MakesEntries : {W E : Type 0} → Setting W E → (n : ℕ) → List Work → Configuration W E → List E → Type 0
-MakesEntries p n work c es = IsPrefix es (journal (stands_at (run_within p n work c)))
+MakesEntries p n work c es = IsBeginningOf es (journal_so_far (stands_at (run_within p n work c)))
 
 -- so many steps one after another, as one
 abbrev pub with_cost : {W E : Type 0} → Cost → Step W E → Step W E
 with_cost k (Go j w d) = Go (plus k j) w d
 with_cost k (Stop j f d) = Stop (plus k j) f d
 
-abbrev pub after_step : {W E : Type 0} → Step W E → (List Work → Configuration W E → Step W E) → Step W E
-after_step (Go k w d) further = with_cost k (further w d)
-after_step (Stop k f d) further = Stop k f d
+abbrev pub step_then : {W E : Type 0} → Step W E → (List Work → Configuration W E → Step W E) → Step W E
+step_then (Go k w d) further = with_cost k (further w d)
+step_then (Stop k f d) further = Stop k f d
 
 abbrev pub steps : {W E : Type 0} → Setting W E → ℕ → List Work → Configuration W E → Step W E
 steps p zero w c = Go (units 0) w c
 steps p (suc m) [] c = Go (units 0) [] c
-steps p (suc m) (item ∷ w) c = after_step (act p item w c) (steps p m)
+steps p (suc m) (item ∷ w) c = step_then (work_step p item w c) (steps p m)
 
 -- they lead within j units, their number counted, to work that is done within n
 abbrev pub LeadTo : {W E : Type 0} → Setting W E → (m j n : ℕ) → Step W E → (Configuration W E → Type 0) → Type 0
-LeadTo p m j n (Go k w d) Q = (total k + m ≤ j) × Ends p n w d Q
+LeadTo p m j n (Go k w d) Q = (total k + m ≤ j) × EndsIn p n w d Q
 LeadTo p m j n (Stop k f d) Q = ⊥
 
 -- or to work that makes these entries within n

@@ -103,10 +103,10 @@ act_statement p (choice span test on_true on_false) rest work c =
 act_statement p (loop span test body) rest work c = test_loop (units 2) test body rest work c
 
 -- a work item, in front of what else is left to do
-abbrev pub act : {W E : Type 0} → Setting W E → Work → List Work → Configuration W E → Step W E
-act p (act_on statement rest) work c = act_statement p statement rest work c
-act p (finish place answer rest) work c = store (units 0) place answer rest work c
-act p (again test body rest) work c = test_loop (units 1) test body rest work c
-act p (leave answer target) work c =
+abbrev pub work_step : {W E : Type 0} → Setting W E → Work → List Work → Configuration W E → Step W E
+work_step p (act_on statement rest) work c = act_statement p statement rest work c
+work_step p (finish place answer rest) work c = store (units 0) place answer rest work c
+work_step p (again test body rest) work c = test_loop (units 1) test body rest work c
+work_step p (leave answer target) work c =
     then_go (units 0) c (value_of answer c.state) (λ cost v. deliver cost target v work (with_state c (popped c.state)))
-act p (begin n args) work c = call_function p (units 0) n args outward work c
+work_step p (begin n args) work c = call_function p (units 0) n args outward work c

@@ -9,17 +9,17 @@ use Rattle.c0_meaning.specs.Value.{Values, empty, part}
 use Rattle.c0_meaning.specs.Value as value
 use Rattle.c0_meaning.specs.State.{first_state}
 use Rattle.c0_meaning.specs.Operators.{Failure}
-use Rattle.c0_meaning.specs.World.{PrimitiveMeaning, journal}
+use Rattle.c0_meaning.specs.World.{PrimitiveMeaning, journal_so_far}
 use Rattle.c0_meaning.specs.Execution.{Outcome, Done, Failed, NotYet, call_first}
 
 -- the argument of a call of `trap`
-abbrev pub argument : Values → ℤ
-argument (part (value.int a) vs) = a
-argument _ = pos 0
+abbrev pub trap_argument : Values → ℤ
+trap_argument (part (value.int a) vs) = a
+trap_argument _ = pos 0
 
 -- `trap`: the world's value is the answers that are left, the journal the arguments; past the last answer it answers 0
 abbrev pub trap : PrimitiveMeaning (List ℤ) ℤ
-trap n args answers = record { answer = value.int (unwrap_or (slice_get answers 0) (pos 0)); world = drop 1 answers; entries = argument args ∷ []; pages = 0; words = 0 }
+trap n args answers = record { answer = value.int (unwrap_or (slice_get answers 0) (pos 0)); world = drop 1 answers; entries = trap_argument args ∷ []; pages = 0; words = 0 }
 
 -- how a program ended
 pub data ProgramEnding : Type 0 where
@@ -39,9 +39,9 @@ up_to answers s =
 
 -- what is seen of an outcome
 abbrev pub outcome_seen : Outcome (List ℤ) ℤ → Seen
-outcome_seen (Done k c) = record { arguments = journal c; ending = done }
-outcome_seen (Failed k f c) = record { arguments = journal c; ending = failed f }
-outcome_seen (NotYet k c) = record { arguments = journal c; ending = not_yet }
+outcome_seen (Done k c) = record { arguments = journal_so_far c; ending = done }
+outcome_seen (Failed k f c) = record { arguments = journal_so_far c; ending = failed f }
+outcome_seen (NotYet k c) = record { arguments = journal_so_far c; ending = not_yet }
 
 -- `main` of a unit, within n units, where the i-th call of `trap` answers the i-th of a list; heap and stack have 1024 words each
 abbrev pub prog : CUnit → List ℤ → ℕ → Seen

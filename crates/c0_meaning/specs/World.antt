@@ -53,13 +53,13 @@ pub record Configuration (W E : Type 0) : Type 0 where
   pub answer : Option Value
 
 -- the entries of calls, one after another
-abbrev pub entries_of : {E : Type 0} → List (List E) → List E
-entries_of [] = []
-entries_of (entries ∷ rest) = entries ++ entries_of rest
+abbrev pub all_entries : {E : Type 0} → List (List E) → List E
+all_entries [] = []
+all_entries (entries ∷ rest) = entries ++ all_entries rest
 
 -- the journal entries so far
-abbrev pub journal : {W E : Type 0} → Configuration W E → List E
-journal c = entries_of c.calls
+abbrev pub journal_so_far : {W E : Type 0} → Configuration W E → List E
+journal_so_far c = all_entries c.calls
 
 -- how many calls of primitives ended
 abbrev pub calls_ended : {W E : Type 0} → Configuration W E → ℕ

@@ -1,4 +1,4 @@
 pub mod NamesLemmas
-pub mod Meeting
+pub mod FaultsMet
 pub mod StructsTell
 pub mod SpacesLemmas

@@ -9,7 +9,7 @@ use Rattle.c0_meaning.specs.Fault.{Fault, fault, kept_all, NAME_TWICE}
 use Rattle.c0_name_check.specs.Names.{number_named}
 use Rattle.c0_name_check.specs.Spaces.{twice_by, TwiceByTestIsTwice}
 use Rattle.c0_meaning.specs.Names.{is_among}
-use Rattle.c0_name_check.proofs.Meeting.{kept_all-append}
+use Rattle.c0_name_check.proofs.FaultsMet.{kept_all-append}
 use Rattle.std.proofs.lemmas.List.Folds.{list_any-append}
 
 numbers_in : (b : Bool) (o : Option ℕ) (n : ℕ) (rest here : Option ℕ) (e : here ≡ cond b (Some n) rest) → option_or (option_or o (cond b (Some n) None)) rest ≡ option_or o here

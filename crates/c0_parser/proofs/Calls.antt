@@ -7,9 +7,9 @@ use Rattle.c0_parser.specs.Sorts.{mark, a_name, among}
 use Rattle.c0_parser.specs.Value.{SemanticValue}
 use Rattle.c0_parser.specs.Grammar.{disjunction, Piece, one_of, sign, ◌▸◌, the, NAME, EXPR, Derives, taken, both}
 use Rattle.c0_parser.specs.Machine.{ParserState, at, want, picks, heads, kind, starts, ParserLeads}
-use Rattle.c0_parser.proofs.Runs.{one_end, steps}
-use Rattle.c0_parser.proofs.Tables.{call_or_expr, within_at, is_name, is_mark, no_yes, or_false}
-use Rattle.c0_parser.proofs.Complete.{Stops}
+use Rattle.c0_parser.proofs.MachineRuns.{one_end, steps}
+use Rattle.c0_parser.proofs.TokensDecide.{call_or_expr, within_at, is_name, is_mark, no_yes, or_false}
+use Rattle.c0_parser.proofs.DerivedIsRead.{Stops}
 
 pub call_shape : (a b : Piece) → call_or_expr a b ≡ true → (c : Piece) × (a ≡ NAME ▸ sign OpenParen ▸ c) × (b ≡ EXPR)
 call_shape (one_of a_name [] ▸ one_of (mark OpenParen) [] ▸ c) (the disjunction) e = (c, refl, refl)

@@ -17,10 +17,10 @@ use Rattle.c0_parser.specs.declared.expressions.Level.{Level}
 use Rattle.c0_parser.specs.declared.expressions.Level.TheVariants.{Disjunction, Conjunction, Equality, Relation, Sum, Product}
 use Rattle.c0_parser.specs.declared.expressions.Part.{Part}
 use Rattle.c0_parser.specs.declared.reader.Halt.{Halt}
-use Rattle.c0_parser.proofs.Steps.{refuses_one, seen_length, goes_both, goes_first, goes_second, goes_the, goes_many, refuses_the, refuses_second, refuses_left, list_item, fails_left, fails_right, fails_first, fails_second, fails_the, fails_many, fails_by, no_memory, shorter}
+use Rattle.c0_parser.proofs.PieceSteps.{refuses_one, seen_length, goes_both, goes_first, goes_second, goes_the, goes_many, refuses_the, refuses_second, refuses_left, list_item, fails_left, fails_right, fails_first, fails_second, fails_the, fails_many, fails_by, no_memory, shorter}
 use Rattle.c0_parser.specs.declared.reader.Halt.TheVariants.{Memory, Left}
-use Rattle.c0_parser.proofs.Complete.{picks_first, cond_true}
-use Rattle.c0_parser.proofs.Tables.{no_yes}
+use Rattle.c0_parser.proofs.DerivedIsRead.{picks_first, cond_true}
+use Rattle.c0_parser.proofs.TokensDecide.{no_yes}
 
 -- sorts that a token may be of
 

@@ -9,13 +9,13 @@ use Rattle.c0_parser.specs.Grammar.{Rule, disjunction, conjunction, equality, re
 use Rattle.c0_parser.specs.Factored.{SOURCE}
 use Rattle.c0_parser.specs.Machine.{ParserState, at, want, kind, ParserLeads}
 use Rattle.c0_parser.specs.Contract.{PieceReads, Refuses, Stuck}
-use Rattle.c0_parser.proofs.Runs.{one_end}
-use Rattle.c0_parser.proofs.Sound.{back, Means}
-use Rattle.c0_parser.proofs.Tables.{apart, apart_at, and_left, and_right, source_good}
-use Rattle.c0_parser.proofs.Complete.{cond_false}
+use Rattle.c0_parser.proofs.MachineRuns.{one_end}
+use Rattle.c0_parser.proofs.ReadIsDerived.{back, Means}
+use Rattle.c0_parser.proofs.TokensDecide.{apart, apart_at, and_left, and_right, source_good}
+use Rattle.c0_parser.proofs.DerivedIsRead.{cond_false}
 use Rattle.c0_parser.proofs.DerivationsAreRead.{reads}
 use Rattle.c0_parser.proofs.Samples.{completes_one}
-use Rattle.c0_parser.proofs.Replay.{left_of, Stop, replay}
+use Rattle.c0_parser.proofs.StuckWhateverFollows.{left_of, Stop, replay}
 
 -- whether a token ends a source: its end, or a token of no source
 abbrev pub ends_source : CToken → Bool

@@ -11,7 +11,7 @@ use Rattle.c0_parser.specs.Grammar.{many, the, one_of, sign, ◌▸◌, ITEM, FU
 use Rattle.c0_parser.specs.Grammar as grammar
 use Rattle.c0_parser.specs.Faults.{ReadsAs}
 use Rattle.c0_parser.specs.Items.{CItem, struct_item, global_item, function_item, item_piece, item_meaning, DeclareAll, no_items, one_more_item, IsMadeOf, structs_among, globals_among, functions_among, unit_with}
-use Rattle.c0_parser.proofs.Tables.{no_yes}
+use Rattle.c0_parser.proofs.TokensDecide.{no_yes}
 use Rattle.c0_parser.proofs.Shapes.{IsADecl, IsABody, means}
 
 -- what a piece of the grammar declares

@@ -10,7 +10,7 @@ use Rattle.c0_tree.specs.declared.tree.Span.{Span}
 use Rattle.c0_tree.specs.Tree.{CExpr, CName, CStmt, CDecl, CStruct, CFunction}
 use Rattle.c0_tree.specs.View.{stmts_of}
 use Rattle.c0_tree.specs.Plain.{is_plain_expr, is_nonempty, is_short, is_plain_struct, stmts_length, is_plain_stmt, are_plain_stmts, is_plain_body, is_plain}
-use Rattle.c0_parser.specs.Value.{SemanticValue, token, pair, none, snoc, expr, type, decl, stmt, block, body, a_struct, a_global, a_function, text_of, literal, primary_value, part_of, suffixed, suffixes, postfix_value, prefixed, unary_value, joined, chained, chain_value, base_value, type_suffixed, type_suffixes, type_value, decl_of, decl_value, decls_in, decls, decls_from, exprs_in, exprs, args_of, stmts_in, stmts, block_value, stored, chosen, statement_value, code_value, body_value, parsed_params, defined, struct_of, item_value, struct_in, global_in, function_in, structs, globals, functions, parsed_unit}
+use Rattle.c0_parser.specs.Value.{SemanticValue, token, pair, none, snoc, expr, type, decl, stmt, block, body, a_struct, a_global, a_function, lexeme_text, literal, primary_value, part_of, suffixed, suffixes, postfix_value, prefixed, unary_value, joined, chained, chain_value, base_value, type_suffixed, type_suffixes, type_value, decl_of, decl_value, decls_in, decls, decls_from, exprs_in, exprs, args_of, stmts_in, stmts, block_value, stored, choice_value, statement_value, code_value, body_value, parsed_params, defined, struct_of, item_value, struct_in, global_in, function_in, structs, globals, functions, parsed_unit}
 use Rattle.c0_parser.proofs.PlainTexts.{TextFits}
 
 -- a token's number is small, and its text is no longer than a source
@@ -232,7 +232,7 @@ stored_plain s p (pair (token x) (pair (token open_) (pair l (token close)))) h 
     and_from (is_plain_expr p) _ h (and_from (is_short (args_of l)) (list_all is_plain_expr (args_of l)) (short (args_of l) a.0) a.1)
 stored_plain s p _ h k = tt
 
-chosen_plain : (t : CToken) (e : CExpr) (v : SemanticValue) → is_plain_expr e ≡ true → Plain v → Plain (chosen t e v)
+chosen_plain : (t : CToken) (e : CExpr) (v : SemanticValue) → is_plain_expr e ≡ true → Plain v → Plain (choice_value t e v)
 chosen_plain t e (pair (block s a) none) h k =
     and_from (is_plain_expr e) _ h (and_from _ _ k.0.0 (and_from (are_plain_stmts a) true k.0.1 refl))
 chosen_plain t e (pair (block s a) (snoc none (pair (token other) (block r b)))) h k =
@@ -256,7 +256,7 @@ code_plain _ h = tt
 pub body_plain : (v : SemanticValue) → Plain v → Plain (body_value v)
 body_plain (pair (token t) (token text)) h =
     let fits = h.1.1 in
-    and_from (is_short (text_of text.lexeme)) true (short (text_of text.lexeme) (omega arith)) refl
+    and_from (is_short (lexeme_text text.lexeme)) true (short (lexeme_text text.lexeme) (omega arith)) refl
 body_plain (body b) h = h
 body_plain _ h = tt
 

@@ -12,7 +12,7 @@ use Rattle.c0_parser.specs.Value.{SemanticValue, pair, structs}
 use Rattle.c0_parser.specs.Grammar.{Rule, disjunction, conjunction, equality, relation, sum, product, unary, postfix, primary, type, decl, block, statement, code, body, Piece, one_of, ◌▸◌, ◌or◌, many, maybe, the, production, production_value, Derives, taken, both, first, second, no_more, one_more, left_out, there, made, UNIT}
 use Rattle.c0_parser.specs.Machine.{nullable}
 use Rattle.c0_parser.specs.Faults.{ReadsAs}
-use Rattle.c0_parser.proofs.Complete.{Begins, begins}
+use Rattle.c0_parser.proofs.DerivedIsRead.{Begins, begins}
 use Rattle.c0_parser.proofs.StructFields.{structs_have_fields}
 use Rattle.c0_parser.proofs.PlainTexts.{TextsFit, texts_fit}
 use Rattle.c0_parser.proofs.PiecesArePlain.{IsSmall, parts, Plain, primary_plain, postfix_plain, unary_plain, chain_plain, type_plain, decl_plain, block_plain, statement_plain, code_plain, body_plain, unit_plain}

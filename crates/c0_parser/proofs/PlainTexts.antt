@@ -5,14 +5,14 @@ use Rattle.std.specs.List.{prefix_len, position_or_len, starts_with}
 use Rattle.std.proofs.lemmas.List.{length-take}
 use Rattle.c0_tokens.specs.declared.token.TokenFault.TheVariants.{BadByte, BadNumber, TooNested}
 use Rattle.c0_tokens.specs.Tokens.{CLexeme, name, number, asm_text, fixed, faulty, end, CToken}
-use Rattle.c0_tokens.specs.Spelling.{Spelling, words, marks}
-use Rattle.c0_tokens.specs.Lexis.{gap, Cut, longest_token, word_lexeme, number_lexeme, word_cut, number_cut, mark_cut, asm_cut, digits_value, has_leading_zero, is_unclosed, next_text, is_asm_word, is_last, is_letter, is_digit, is_word_byte, is_close_brace, tokens_within}
+use Rattle.c0_tokens.specs.Spelling.{Spelling, reserved_words, marks}
+use Rattle.c0_tokens.specs.Lexis.{gap, Cut, longest_token, word_lexeme, number_lexeme, word_cut, number_cut, mark_cut, asm_cut, digits_value, has_leading_zero, is_unclosed, text_from_token, is_asm_word, is_last, is_letter, is_digit, is_word_byte, is_close_brace, tokens_within}
 use Rattle.c0_tokens.specs.Nesting.{Depth, outside, depth_after, at_depth, is_too_nested, nested, tokens_of}
-use Rattle.c0_parser.specs.Value.{text_of}
+use Rattle.c0_parser.specs.Value.{lexeme_text}
 
 -- the text of a token is at most so long
 abbrev pub TextFits : ℕ → CLexeme → Type 0
-TextFits n l = length (text_of l) ≤ n
+TextFits n l = length (lexeme_text l) ≤ n
 
 -- so is the text of each of these tokens
 abbrev pub TextsFit : ℕ → List CToken → Type 0
@@ -42,7 +42,7 @@ word_or_name n (Some s) text h = omega arith
 
 word_fits : (n : ℕ) (text : List ℕ) → length text ≤ n → TextFits n (word_lexeme text)
 unfolding word_lexeme
-word_fits n text h = word_or_name n (find (λ s. bytes_eq s.0 text) words) text h
+word_fits n text h = word_or_name n (find (λ s. bytes_eq s.0 text) reserved_words) text h
 
 number_or_bad : (n value : ℕ) (a b : Bool) → TextFits n (if a then faulty BadNumber else if b then number value else faulty BadNumber)
 number_or_bad n value true b = omega arith
@@ -79,7 +79,7 @@ none_or : (n : ℕ) (b : Bool) (text : List ℕ) → length text ≤ n → lengt
 none_or n true text h = omega arith
 none_or n false text h = h
 
-next_fits : (n : ℕ) (after_asm : Bool) (text : List ℕ) → length text ≤ n → length (next_text after_asm text) ≤ n
+next_fits : (n : ℕ) (after_asm : Bool) (text : List ℕ) → length text ≤ n → length (text_from_token after_asm text) ≤ n
 next_fits n after_asm text h = none_or n (after_asm && is_unclosed (drop (gap text) text)) (drop (gap text) text) (rest_fits n (gap text) text h)
 
 ends_or : (n : ℕ) (b : Bool) (ts : List CToken) → TextsFit n ts → TextsFit n (if b then [] else ts)
@@ -89,8 +89,8 @@ ends_or n false ts h = h
 within_fits : (k n size : ℕ) (after_asm : Bool) (text : List ℕ) → length text ≤ n → TextsFit n (tokens_within k size after_asm text)
 within_fits zero n size after_asm text h = tt
 within_fits (suc k) n size after_asm text h =
-    let c = longest_token after_asm (next_text after_asm text) in
-    let f = cut_fits n after_asm (next_text after_asm text) (next_fits n after_asm text h) in
+    let c = longest_token after_asm (text_from_token after_asm text) in
+    let f = cut_fits n after_asm (text_from_token after_asm text) (next_fits n after_asm text h) in
     (f.0, ends_or n (is_last c.lexeme) (tokens_within k size (is_asm_word c.lexeme) c.rest) (within_fits k n size (is_asm_word c.lexeme) c.rest f.1))
 
 nested_or : (n : ℕ) (b : Bool) (l : CLexeme) → TextFits n l → TextFits n (if b then faulty TooNested else l)

@@ -7,8 +7,8 @@ use Rattle.c0_parser.specs.Sorts.{Sort, mark, a_name, a_number, an_asm_text, the
 use Rattle.c0_parser.specs.Value.{SemanticValue, token}
 use Rattle.c0_parser.specs.Grammar.{Rule, disjunction, conjunction, equality, relation, sum, product, unary, postfix, primary, type, decl, block, statement, code, body, Piece, one_of, ◌▸◌, ◌or◌, many, maybe, the, production, Derives, taken, both, first, second, no_more, left_out, made}
 use Rattle.c0_parser.specs.Machine.{Task, want, more, act}
-use Rattle.c0_parser.proofs.Sound.{Means, top, no_more_of}
-use Rattle.c0_parser.proofs.Tables.{same_sort_refl}
+use Rattle.c0_parser.proofs.ReadIsDerived.{Means, top, no_more_of}
+use Rattle.c0_parser.proofs.TokensDecide.{same_sort_refl}
 
 lexeme_of : Sort → CLexeme
 lexeme_of (mark m) = fixed m

@@ -5,7 +5,7 @@ use Rattle.c0_tokens.specs.Tokens.{CToken}
 use Rattle.c0_tree.specs.declared.tree.Span.{Span}
 use Rattle.c0_tree.specs.Tree.{CExpr}
 use Rattle.c0_parser.specs.Sorts.{Sort}
-use Rattle.c0_parser.specs.Value.{SemanticValue, token, pair, none, snoc, expr, type, decl, stmt, block, body, suffixed, suffixes, joined, chained, unary_value, primary_value, base_value, type_suffixed, type_suffixes, decl_of, stored, chosen, statement_value, code_value, body_value}
+use Rattle.c0_parser.specs.Value.{SemanticValue, token, pair, none, snoc, expr, type, decl, stmt, block, body, suffixed, suffixes, joined, chained, unary_value, primary_value, base_value, type_suffixed, type_suffixes, decl_of, stored, choice_value, statement_value, code_value, body_value}
 use Rattle.c0_parser.specs.Grammar.{Rule, Piece, one_of, sign, ◌▸◌, ◌or◌, many, maybe, the, production, production_value, NAME, EXPR, RIGHT, BASE, SUFFIX, SUFFIXES, Derives}
 use Rattle.c0_parser.specs.Grammar as grammar
 
@@ -119,13 +119,13 @@ stored_is s p (second (first (both (taken _ _ x) (both (taken _ _ o) (both d (ta
 stored_is s p (second (second (made _ (expr r e) h))) = tt
 stored_is s p (second (second (made _ _ h))) = absurd h
 
-chosen_is : (t : CToken) (e : CExpr) (v : SemanticValue) {w : SemanticValue} → IsABlock v → Shaped (maybe (sign Else ▸ the grammar.block)) w → IsAStmt (chosen t e (pair v w))
+chosen_is : (t : CToken) (e : CExpr) (v : SemanticValue) {w : SemanticValue} → IsABlock v → Shaped (maybe (sign Else ▸ the grammar.block)) w → IsAStmt (choice_value t e (pair v w))
 chosen_is t e (block s a) h left_out = tt
 chosen_is t e (block s a) h (there (both (taken _ _ x) (made _ (block r b) k))) = tt
 chosen_is t e (block s a) h (there (both (taken _ _ x) (made _ _ k))) = absurd k
 chosen_is t e _ h d = absurd h
 
-loop_is : (t : CToken) (e : CExpr) (v : SemanticValue) → IsABlock v → IsAStmt (chosen t e v)
+loop_is : (t : CToken) (e : CExpr) (v : SemanticValue) → IsABlock v → IsAStmt (choice_value t e v)
 loop_is t e (block s a) h = tt
 loop_is t e _ h = absurd h
 

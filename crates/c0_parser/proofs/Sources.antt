@@ -25,10 +25,10 @@ use Rattle.std.specs.Prelude.{Result, Ok, Err}
 use Rattle.std.specs.Result.{IsErrAnd}
 use Rattle.c0_parser.specs.declared.fault.ReadFault.{ReadFault}
 use Rattle.c0_parser.specs.declared.source.Items.{Items}
-use Rattle.c0_parser.proofs.Tables.{within_at, no_yes}
-use Rattle.c0_parser.proofs.Sound.{back}
+use Rattle.c0_parser.proofs.TokensDecide.{within_at, no_yes}
+use Rattle.c0_parser.proofs.ReadIsDerived.{back}
 use Rattle.c0_parser.proofs.FirstBadToken.{ends_source, EndsSource, first_bad, derived, one_meaning, source_means}
-use Rattle.c0_parser.proofs.Steps.{seen_length, goes_one}
+use Rattle.c0_parser.proofs.PieceSteps.{seen_length, goes_one}
 use Rattle.c0_parser.proofs.FactoredGrammar.{SameItems, unit_to, unit_from}
 
 -- what begins a declaration begins an item, and the other way round

@@ -15,8 +15,8 @@ use Rattle.c0_tree.specs.declared.tree.Stmt.{Stmt}
 use Rattle.c0_tree.specs.Tree.{CExpr, CStmt, CDecl, call, code}
 use Rattle.c0_tree.specs.View.{name_view, expr_view, stmt_view, stmts_of}
 use Rattle.c0_parser.specs.Sorts.{mark, same_sort, among}
-use Rattle.c0_parser.proofs.Tables.{same_sort_true}
-use Rattle.c0_parser.specs.Value.{SemanticValue, token, pair, none, snoc, expr, stmt, block, body, parsed_name, args_of, stored, stmts, decls, exprs, exprs_in, chosen, statement_value, block_value, code_value}
+use Rattle.c0_parser.proofs.TokensDecide.{same_sort_true}
+use Rattle.c0_parser.specs.Value.{SemanticValue, token, pair, none, snoc, expr, stmt, block, body, parsed_name, args_of, stored, stmts, decls, exprs, exprs_in, choice_value, statement_value, block_value, code_value}
 use Rattle.c0_parser.specs.Grammar.{Piece, sign, ◌▸◌, ◌or◌, many, the, unary, statement, block as a_block, EXPR, RIGHT}
 use Rattle.c0_parser.specs.Machine.{heads, picks, starts, kind, expr_starts}
 use Rattle.c0_parser.specs.Contract.{as_seen, PieceReads, PieceFails, PieceGoesOn, PieceGives}
@@ -28,7 +28,7 @@ use Rattle.c0_parser.specs.declared.statements.Block.{Block}
 use Rattle.c0_parser.specs.declared.statements.Test.{Test}
 use Rattle.c0_parser.specs.declared.reader.Halt.{Halt}
 use Rattle.c0_parser.specs.declared.reader.Halt.TheVariants.{Left}
-use Rattle.c0_parser.proofs.Steps.{list_starts, list_item, heads_not, goes_the, goes_first, goes_second_not, fails_the, fails_first, fails_second_not, fails_left, fails_many, fails_sign}
+use Rattle.c0_parser.proofs.PieceSteps.{list_starts, list_item, heads_not, goes_the, goes_first, goes_second_not, fails_the, fails_first, fails_second_not, fails_left, fails_many, fails_sign}
 
 -- what is given of one piece is given of another
 pub lifted : {A : Type 0} (p q : Piece) (Is Js : A → SemanticValue → Type 0) (m : SemanticValue → SemanticValue) (ts : List Token) (r : Result (A × Bor (List Token)) Halt) → ((v : SemanticValue) (rest : List CToken) → PieceReads p (as_seen ts) v rest → PieceReads q (as_seen ts) (m v) rest) → ((h : Halt) → PieceFails p (as_seen ts) h → PieceFails q (as_seen ts) h) → ((x : A) (v : SemanticValue) → Is x v → Js x (m v)) → PieceGives p Is ts r → PieceGives q Js ts r
@@ -50,11 +50,11 @@ pub assigned : (a : Part) (e : CToken) (last : Token) (right : Right) (s : Stmt)
 assigned a e last right s pv ev rv lv ep ee er el es = rw (ep, ee, el) (er _ _ ∙ ap stmt (sym es))
 
 -- a word and its test
-pub tested : (w o k : CToken) (a : Part) (wv ov av kv v : SemanticValue) → wv ≡ token w → ov ≡ token o → IsPart a av → kv ≡ token k → statement_value (pair wv (pair ov (pair av (pair kv v)))) ≡ chosen w (expr_view a.expr) v
+pub tested : (w o k : CToken) (a : Part) (wv ov av kv v : SemanticValue) → wv ≡ token w → ov ≡ token o → IsPart a av → kv ≡ token k → statement_value (pair wv (pair ov (pair av (pair kv v)))) ≡ choice_value w (expr_view a.expr) v
 tested w o k a wv ov av kv v ew eo ea ek = rw (ew, eo, ea, ek) refl
 
 -- a choice
-pub choosing : (w : CToken) (t : Test) (first : Block) (other : Option Block) (s : Stmt) (yv nv : SemanticValue) → w.start ≡ t.start → IsBlock first yv → IsOtherwise other nv → stmt_view s ≡ choice_view t first other → chosen w (expr_view t.expr) (pair yv nv) ≡ stmt (stmt_view s)
+pub choosing : (w : CToken) (t : Test) (first : Block) (other : Option Block) (s : Stmt) (yv nv : SemanticValue) → w.start ≡ t.start → IsBlock first yv → IsOtherwise other nv → stmt_view s ≡ choice_view t first other → choice_value w (expr_view t.expr) (pair yv nv) ≡ stmt (stmt_view s)
 choosing w t first None s yv nv ew ey en es = rw (ey, en, es, ew) refl
 choosing w t first (Some b) s yv nv ew ey en es = rw (ey, en.1, es, ew) refl
 

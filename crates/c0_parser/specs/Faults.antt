@@ -28,10 +28,10 @@ pub record IsFirstBad (ts : List CToken) (t : CToken) : Type 0 where
 
 -- the fault of a token that cannot be where it stands: its own, or that it is unexpected
 abbrev pub fault_by : CLexeme → ℕ → ReadFault
-fault_by (faulty token_fault.BadByte) place = BadByte place
-fault_by (faulty token_fault.BadNumber) place = BadNumber place
-fault_by (faulty token_fault.TooNested) place = TooNested place
-fault_by _ place = Unexpected place
+fault_by (faulty token_fault.BadByte) position = BadByte position
+fault_by (faulty token_fault.BadNumber) position = BadNumber position
+fault_by (faulty token_fault.TooNested) position = TooNested position
+fault_by _ position = Unexpected position
 
 abbrev pub fault_at : CToken → ReadFault
 fault_at t = fault_by t.lexeme t.start
@@ -46,13 +46,13 @@ read_fault_number SourceTooLong = 14
 read_fault_number Memory = 15
 
 -- the first byte of the token that cannot be, where the fault has one
-abbrev pub read_fault_place : ReadFault → Option ℕ
-read_fault_place (BadByte at) = Some at
-read_fault_place (BadNumber at) = Some at
-read_fault_place (Unexpected at) = Some at
-read_fault_place (TooNested at) = Some at
-read_fault_place SourceTooLong = None
-read_fault_place Memory = None
+abbrev pub read_fault_position : ReadFault → Option ℕ
+read_fault_position (BadByte at) = Some at
+read_fault_position (BadNumber at) = Some at
+read_fault_position (Unexpected at) = Some at
+read_fault_position (TooNested at) = Some at
+read_fault_position SourceTooLong = None
+read_fault_position Memory = None
 
 -- why a source has no tree: it is too long, or this is the fault of its first token that cannot be; want of memory says nothing
 abbrev pub FaultIs : List ℕ → ReadFault → Type 0

@@ -91,17 +91,17 @@ abbrev pub take_one : List Sort → List CToken → List Task → List SemanticV
 take_one ss [] st vs = None
 take_one ss (t ∷ ts) st vs = cond (among ss (kind t)) (Some (at ts st (token t ∷ vs))) None
 
-abbrev pub enter : Piece → List CToken → List Task → List SemanticValue → Option ParserState
-enter (one_of s ss) ts st vs = take_one (s ∷ ss) ts st vs
-enter (a ▸ b) ts st vs = Some (at ts (want a ∷ want b ∷ act paired ∷ st) vs)
-enter (a or b) ts st vs = Some (at ts (want (cond (picks a b ts) a b) ∷ st) vs)
-enter (many a) ts st vs = Some (at ts (more a ∷ st) (none ∷ vs))
-enter (maybe a) ts st vs = Some (cond (heads a ts) (at ts (want a ∷ act listed ∷ st) (none ∷ vs)) (at ts st (none ∷ vs)))
-enter (the r) ts st vs = Some (at ts (want (production r) ∷ act (meant r) ∷ st) vs)
+abbrev pub enter_piece : Piece → List CToken → List Task → List SemanticValue → Option ParserState
+enter_piece (one_of s ss) ts st vs = take_one (s ∷ ss) ts st vs
+enter_piece (a ▸ b) ts st vs = Some (at ts (want a ∷ want b ∷ act paired ∷ st) vs)
+enter_piece (a or b) ts st vs = Some (at ts (want (cond (picks a b ts) a b) ∷ st) vs)
+enter_piece (many a) ts st vs = Some (at ts (more a ∷ st) (none ∷ vs))
+enter_piece (maybe a) ts st vs = Some (cond (heads a ts) (at ts (want a ∷ act listed ∷ st) (none ∷ vs)) (at ts st (none ∷ vs)))
+enter_piece (the r) ts st vs = Some (at ts (want (production r) ∷ act (meant r) ∷ st) vs)
 
 abbrev pub parser_step : ParserState → Option ParserState
 parser_step (at ts [] vs) = None
-parser_step (at ts (want p ∷ st) vs) = enter p ts st vs
+parser_step (at ts (want p ∷ st) vs) = enter_piece p ts st vs
 parser_step (at ts (more a ∷ st) vs) = Some (cond (heads a ts) (at ts (want a ∷ act listed ∷ more a ∷ st) vs) (at ts st vs))
 parser_step (at ts (act f ∷ st) vs) = Some (at ts st (f vs))
 

@@ -10,7 +10,7 @@ use Rattle.c0_tree.specs.declared.tree.Expr.{Expr}
 use Rattle.c0_tree.specs.declared.tree.Stmt.{Stmt}
 use Rattle.c0_tree.specs.Tree.{CStmt, choice, loop, done}
 use Rattle.c0_tree.specs.View.{expr_view, stmt_view, stmts_view}
-use Rattle.c0_parser.specs.Value.{SemanticValue, token, pair, none, snoc, expr, stmt, block, statement_value, chosen, exprs}
+use Rattle.c0_parser.specs.Value.{SemanticValue, token, pair, none, snoc, expr, stmt, block, statement_value, choice_value, exprs}
 use Rattle.c0_parser.specs.Grammar.{Piece, sign, ◌▸◌, maybe, the, unary, block as a_block, EXPR, RIGHT}
 use Rattle.c0_parser.specs.Contract.{as_seen, PieceReads, PieceFails}
 use Rattle.c0_parser.specs.declared.reader.Halt.{Halt}
@@ -67,7 +67,7 @@ IsReturned e v = (t : CToken) × (s : Span) × (x : CToken) × (y : CToken) × (
 pub record Opened (m : Mark) (ts : List CToken) (t : Test) (rest : List CToken) : Type 0 where
   pub word : CToken
   pub at_word : word.start ≡ t.start
-  pub goes : (p : Piece) (v : SemanticValue) (last : List CToken) → PieceReads p rest v last → (w : SemanticValue) × PieceReads (TESTED m p) ts w last × (statement_value w ≡ chosen word (expr_view t.expr) v)
+  pub goes : (p : Piece) (v : SemanticValue) (last : List CToken) → PieceReads p rest v last → (w : SemanticValue) × PieceReads (TESTED m p) ts w last × (statement_value w ≡ choice_value word (expr_view t.expr) v)
   pub fails : (p : Piece) (h : Halt) → PieceFails p rest h → PieceFails (TESTED m p) ts h
 
 -- a word and its test are read, or cannot be

@@ -37,10 +37,10 @@ abbrev pub across : Span → Span → Span
 across a b = record { start = a.start; end = b.end }
 
 -- the text of a name or an asm text
-abbrev pub text_of : CLexeme → List ℕ
-text_of (name text) = text
-text_of (asm_text text) = text
-text_of _ = []
+abbrev pub lexeme_text : CLexeme → List ℕ
+lexeme_text (name text) = text
+lexeme_text (asm_text text) = text
+lexeme_text _ = []
 
 -- the value of a number
 abbrev pub literal_value : CLexeme → ℕ
@@ -49,7 +49,7 @@ literal_value _ = 0
 
 -- a name as it is read: it is not known what it stands for
 abbrev pub parsed_name : CToken → CName
-parsed_name t = record { text = text_of t.lexeme; span = token_span t; kind = Unresolved; number = 0 }
+parsed_name t = record { text = lexeme_text t.lexeme; span = token_span t; kind = Unresolved; number = 0 }
 
 -- a name, a number, `true`, `false` or `null`
 abbrev pub literal : CToken → CLexeme → CExpr
@@ -220,16 +220,16 @@ stored s p (pair (token x) (pair (token opening) (pair l (token closing)))) = st
 stored s p _ = none
 
 -- what stands behind `if ( test )`: a block, and perhaps `else` and a block
-abbrev pub chosen : CToken → CExpr → SemanticValue → SemanticValue
-chosen t e (pair (block s a) none) = stmt (choice (across (token_span t) s) e a done)
-chosen t e (pair (block s a) (snoc none (pair (token other) (block r b)))) = stmt (choice (across (token_span t) r) e a b)
-chosen t e (block s a) = stmt (loop (across (token_span t) s) e a)
-chosen t e _ = none
+abbrev pub choice_value : CToken → CExpr → SemanticValue → SemanticValue
+choice_value t e (pair (block s a) none) = stmt (choice (across (token_span t) s) e a done)
+choice_value t e (pair (block s a) (snoc none (pair (token other) (block r b)))) = stmt (choice (across (token_span t) r) e a b)
+choice_value t e (block s a) = stmt (loop (across (token_span t) s) e a)
+choice_value t e _ = none
 
 -- unary "=" right ";" | "if" "(" expr ")" block [ "else" block ] | "while" "(" expr ")" block
 abbrev pub statement_value : SemanticValue → SemanticValue
 statement_value (pair (expr s p) (pair (token equals) (pair r (token semicolon)))) = stored (across s (token_span semicolon)) p r
-statement_value (pair (token t) (pair (token opening) (pair (expr s e) (pair (token closing) rest)))) = chosen t e rest
+statement_value (pair (token t) (pair (token opening) (pair (expr s e) (pair (token closing) rest)))) = choice_value t e rest
 statement_value _ = none
 
 -- "{" { type NAME ";" } { statement } "return" expr ";" "}"
@@ -239,7 +239,7 @@ code_value _ = none
 
 -- code | "asm" asmtext
 abbrev pub body_value : SemanticValue → SemanticValue
-body_value (pair (token t) (token text)) = body (asm (text_of text.lexeme) (token_span text) [])
+body_value (pair (token t) (token text)) = body (asm (lexeme_text text.lexeme) (token_span text) [])
 body_value (body b) = body b
 body_value _ = none
 

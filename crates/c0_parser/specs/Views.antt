@@ -10,7 +10,7 @@ use Rattle.c0_tree.specs.declared.tree.Stmt.{Stmt}
 use Rattle.c0_tree.specs.declared.tree.Body.{Body}
 use Rattle.c0_tree.specs.Tree.{CTy, pointer, array, CExpr, CStmt, assign, call, new, CName, asm}
 use Rattle.c0_tree.specs.View.{name_view, type_view, expr_view, decl_view, stmt_view, stmts_view, struct_view, body_view, function_view}
-use Rattle.c0_parser.specs.Value.{SemanticValue, token, pair, expr, type, decl, stmt, block, body, a_struct, a_global, a_function, token_span, parsed_name, text_of, defined}
+use Rattle.c0_parser.specs.Value.{SemanticValue, token, pair, expr, type, decl, stmt, block, body, a_struct, a_global, a_function, token_span, parsed_name, lexeme_text, defined}
 use Rattle.c0_parser.specs.Value.{struct_of, args_of, stmts, decls, decls_from, parsed_params, decls_in, type_suffixes, type_suffixed, literal_value, base_value}
 use Rattle.c0_parser.specs.Value.{stored}
 use Rattle.c0_parser.specs.Factored.{factored_value, declared_as, item_after_name}
@@ -140,7 +140,7 @@ AreMoreLines first ds v = map decl_view first.items ++ decls v ≡ map decl_view
 
 -- the text of an asm body
 abbrev pub IsAsm : Body → SemanticValue → Type 0
-IsAsm b v = (t : CToken) × (v ≡ token t) × (asm (text_of t.lexeme) (token_span t) [] ≡ body_view b)
+IsAsm b v = (t : CToken) × (v ≡ token t) × (asm (lexeme_text t.lexeme) (token_span t) [] ≡ body_view b)
 
 -- the global or function of this declaration
 abbrev pub IsItemOfDecl : Decl → Item → SemanticValue → Type 0

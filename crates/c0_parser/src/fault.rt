@@ -2,7 +2,7 @@
 
 ghost use Rattle.c0_tokens.specs.Tokens.{token_view};
 ghost use Rattle.std.specs.Prelude.{◌≡◌};
-ghost use Rattle.c0_parser.specs.Faults.{fault_at, read_fault_number, read_fault_place};
+ghost use Rattle.c0_parser.specs.Faults.{fault_at, read_fault_number, read_fault_position};
 ghost use Rattle.c0_parser.specs.declared.fault.ReadFault.TheVariants.{Memory as NoMemory};
 
 use c0_tokens::{Lexeme, Token, TokenFault};
@@ -50,7 +50,7 @@ impl ReadFault {
 
     /// The first byte of the token that cannot be, where the fault has one.
     pub fn at(&self) -> Option<u64>
-        ensures { result ≡ read_fault_place self.now }
+        ensures { result ≡ read_fault_position self.now }
     {
         match self {
             ReadFault::BadByte { at } => Some(*at),

@@ -13,7 +13,7 @@ use Rattle.cvm_words.specs.Words.{int_of, quotient, remainder}
 use Rattle.c0_tree.specs.declared.tree.BinaryOp.{BinaryOp}
 use Rattle.c0_tree.specs.declared.tree.BinaryOp.TheVariants as op
 use Rattle.c0_runtime.specs.Laws.{RoutineCalled, RoutineReturns, AreOperands, HasAnswer, IsComputed, MultiplyRuns, DivideRuns}
-use Rattle.c0_runtime.proofs.Steps.{moved, rests, put_other}
+use Rattle.c0_runtime.proofs.RoutineSteps.{moved, rests, put_other}
 use Rattle.c0_runtime.proofs.Numbers.{product_word, not_zero, by_other, quotient_word}
 
 -- the contents after hi, lo and register 2 are set

@@ -1,6 +1,6 @@
-mod Steps
-mod Clear
+mod RoutineSteps
+mod ClearingLoop
 mod Objects
 mod Numbers
 mod Arithmetic
-mod Entering
+mod KernelEntry

@@ -8,10 +8,10 @@ use Rattle.mips_table.specs.Arith.{flag}
 use Rattle.mips_table.specs.Code.{put, Contents, Behind, World, Sound, at_with, Steps, Reaches, CodeAt, RunLaws}
 use Rattle.masm.specs.Says.{Gives, Reads, Writes}
 use Rattle.masm.specs.Laws.{RunsCompose, StraightRuns, JumpsLead}
-use Rattle.c0_runtime.specs.Code.{test_room_code, bump_heap_code, find_object_code, zero_object_code, new_code}
+use Rattle.c0_runtime.specs.Code.{test_room_code, bump_heap_code, find_object_code, zero_object_code, new_routine}
 use Rattle.c0_runtime.specs.Laws.{RoutineCalled, RoutineReturns, ComesBackIn, HeapIs, IsAsked, IsRefused, ObjectMade, NewRuns}
-use Rattle.c0_runtime.proofs.Steps.{moved, rests, put_other, four_above, two_above, flag_set, flag_clear}
-use Rattle.c0_runtime.proofs.Clear.{IsCleared, MayClear, clears}
+use Rattle.c0_runtime.proofs.RoutineSteps.{moved, rests, put_other, four_above, two_above, flag_set, flag_clear}
+use Rattle.c0_runtime.proofs.ClearingLoop.{IsCleared, MayClear, clears}
 
 -- the test's straight part, and what is said of it
 abbrev test_code : List Inst
@@ -33,7 +33,7 @@ taken used first size c = record c {
 }
 
 module _ (w : World) (f : Sound w) (joins : RunLaws) (runs : RunsCompose) (straight : StraightRuns w) (jumps : JumpsLead w) where
-  test_runs : (n to used heap first size : ℕ) (c : Contents) (d : Behind) → CodeAt w n new_code → RoutineCalled to c d → HeapIs w used heap first c →
+  test_runs : (n to used heap first size : ℕ) (c : Contents) (d : Behind) → CodeAt w n new_routine → RoutineCalled to c d → HeapIs w used heap first c →
       IsAsked size c → Reaches w 4 (at_with n c d) (at_with (n + 4) (tested used heap size c) d)
   test_runs n to used heap first size c d at call h q =
       let small = f.small in let behind = h.behind in let inside = h.inside in let within = h.within in let most = q.most in
@@ -42,14 +42,14 @@ module _ (w : World) (f : Sound w) (joins : RunLaws) (runs : RunsCompose) (strai
       (runs.front w n test_code (Bne 1 0 11 ∷ (bump_heap_code ++ (find_object_code ++ zero_object_code))) at) refl call.idle
       ((refl, omega arith, h.used_word), ((refl, omega arith, h.heap_word), (omega arith, (refl, tt))))
 
-  branch_at : (n : ℕ) → CodeAt w n new_code → CodeAt w (n + 4) (Bne 1 0 11 ∷ (bump_heap_code ++ (find_object_code ++ zero_object_code)))
+  branch_at : (n : ℕ) → CodeAt w n new_routine → CodeAt w (n + 4) (Bne 1 0 11 ∷ (bump_heap_code ++ (find_object_code ++ zero_object_code)))
   branch_at n at = runs.back w n test_code (Bne 1 0 11 ∷ (bump_heap_code ++ (find_object_code ++ zero_object_code))) at
 
-  refuse_at : (n : ℕ) → CodeAt w n new_code → CodeAt w (n + 16) (Addu 2 0 0 ∷ Jr 31 ∷ [])
+  refuse_at : (n : ℕ) → CodeAt w n new_routine → CodeAt w (n + 16) (Addu 2 0 0 ∷ Jr 31 ∷ [])
   refuse_at n at = runs.back w n (test_room_code ++ (bump_heap_code ++ (find_object_code ++ Sw 0 3 0 ∷ Addiu 3 3 4 ∷ Bne 3 5 65533 ∷ Jr 31 ∷ [])))
       (Addu 2 0 0 ∷ Jr 31 ∷ []) at
 
-  refuses : (n to used heap first size : ℕ) (c : Contents) (d : Behind) → CodeAt w n new_code → RoutineCalled to c d → HeapIs w used heap first c →
+  refuses : (n to used heap first size : ℕ) (c : Contents) (d : Behind) → CodeAt w n new_routine → RoutineCalled to c d → HeapIs w used heap first c →
       IsAsked size c → heap < used + size → RoutineReturns w 7 n to c d (IsRefused c)
   refuses n to used heap first size c d at call h q lt =
       let c1 = tested used heap size c in
@@ -84,7 +84,7 @@ module _ (w : World) (f : Sound w) (joins : RunLaws) (runs : RunsCompose) (strai
       )
 
   -- the words are taken
-  take_runs : (n to used heap first size : ℕ) (c : Contents) (d : Behind) → CodeAt w n new_code → RoutineCalled to c d → HeapIs w used heap first c →
+  take_runs : (n to used heap first size : ℕ) (c : Contents) (d : Behind) → CodeAt w n new_routine → RoutineCalled to c d → HeapIs w used heap first c →
       IsAsked size c → used + size ≤ heap → Reaches w 7 (at_with (n + 5) (tested used heap size c) d)
       (at_with (n + 12) (taken used first size (tested used heap size c)) d)
   take_runs n to used heap first size c d at call h q le =
@@ -101,7 +101,7 @@ module _ (w : World) (f : Sound w) (joins : RunLaws) (runs : RunsCompose) (strai
         ),
       ))
 
-  loop_at : (n : ℕ) → CodeAt w n new_code → CodeAt w (n + 12) (Sw 0 3 0 ∷ Addiu 3 3 4 ∷ Bne 3 5 65533 ∷ Jr 31 ∷ Addu 2 0 0 ∷ Jr 31 ∷ [])
+  loop_at : (n : ℕ) → CodeAt w n new_routine → CodeAt w (n + 12) (Sw 0 3 0 ∷ Addiu 3 3 4 ∷ Bne 3 5 65533 ∷ Jr 31 ∷ Addu 2 0 0 ∷ Jr 31 ∷ [])
   loop_at n at = runs.back w n (test_room_code ++ (bump_heap_code ++ find_object_code)) zero_object_code at
 
   -- what the loop leaves is the new object
@@ -128,7 +128,7 @@ module _ (w : World) (f : Sound w) (joins : RunLaws) (runs : RunsCompose) (strai
         };
       }
 
-  makes : (n to used heap first size : ℕ) (c : Contents) (d : Behind) → CodeAt w n new_code → RoutineCalled to c d → HeapIs w used heap first c →
+  makes : (n to used heap first size : ℕ) (c : Contents) (d : Behind) → CodeAt w n new_routine → RoutineCalled to c d → HeapIs w used heap first c →
       IsAsked size c → used + size ≤ heap → ComesBackIn w (3 * size) (13 + 3 * size) n to c d (ObjectMade used first size c)
   makes n to used heap first zero c d at call h q le = let least = q.least in absurd (omega (arith, least))
   makes n to used heap first (suc left) c d at call h q le =

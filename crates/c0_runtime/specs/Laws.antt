@@ -3,7 +3,7 @@ use Rattle.std.specs.Prelude.{◌≡◌, ◌≢◌, ℕ, ◌+◌, ◌*◌, ◌/�
 use Rattle.mips_table.specs.declared.inst.Inst.{Inst}
 use Rattle.mips_table.specs.Device.{Idle}
 use Rattle.mips_table.specs.Code.{Contents, with_reg, Behind, World, at_with, Reaches, CodeAt}
-use Rattle.masm.specs.declared.registers.Places.{Places}
+use Rattle.masm.specs.declared.registers.CodeAddresses.{CodeAddresses}
 use Rattle.masm.specs.declared.registers.TheConstants.{ANSWER, ARGUMENTS, GLOBALS, FRAME_END, STACK_END, RETURN}
 use Rattle.layer_map.specs.Map.{heap_used_at, heap_words_at, heap_first_at, stack_first_at, stack_limit_at}
 use Rattle.cvm_words.specs.Words.{int_of, word_of}
@@ -11,7 +11,7 @@ use Rattle.c0_tree.specs.declared.tree.BinaryOp.{BinaryOp}
 use Rattle.c0_tree.specs.declared.tree.BinaryOp.TheVariants.{Mul, Div, Rem}
 use Rattle.c0_meaning.specs.Value.{int}
 use Rattle.c0_meaning.specs.Operators.{DivZero, faulted, on_ints}
-use Rattle.c0_runtime.specs.Code.{entry_code, behind_first, new_code, multiply_code, divide_code, remainder_code, zero_exit}
+use Rattle.c0_runtime.specs.Code.{startup_code, behind_first, new_routine, multiply_code, divide_code, remainder_code, zero_exit}
 use Rattle.layer_map.specs.declared.entries.TheConstants.{LEAVE}
 use Rattle.c0_runtime.specs.declared.new_object.TheConstants.{END}
 use Rattle.c0_runtime.specs.declared.runtime.TheConstants.{NEW_OBJECT, MULTIPLY, DIVIDE, REMAINDER}
@@ -73,9 +73,9 @@ pub record ObjectMade (used first size : ℕ) (c c' : Contents) : Type 0 where
 -- steps and 3 for each of its words, and no fewer than those 3. The instructions that say how many, the call and the store of the answer
 -- come beside these.
 pub record NewRuns (w : World) : Type 0 where
-  pub refuses : (n to used heap first size : ℕ) (c : Contents) (d : Behind) → CodeAt w n new_code → RoutineCalled to c d → HeapIs w used heap first c →
+  pub refuses : (n to used heap first size : ℕ) (c : Contents) (d : Behind) → CodeAt w n new_routine → RoutineCalled to c d → HeapIs w used heap first c →
       IsAsked size c → heap < used + size → RoutineReturns w 7 n to c d (IsRefused c)
-  pub makes : (n to used heap first size : ℕ) (c : Contents) (d : Behind) → CodeAt w n new_code → RoutineCalled to c d → HeapIs w used heap first c →
+  pub makes : (n to used heap first size : ℕ) (c : Contents) (d : Behind) → CodeAt w n new_routine → RoutineCalled to c d → HeapIs w used heap first c →
       IsAsked size c → used + size ≤ heap → ComesBackIn w (3 * size) (13 + 3 * size) n to c d (ObjectMade used first size c)
 
 -- the operands are words
@@ -120,12 +120,13 @@ pub record StackIs (w : World) (first stack : ℕ) (c : Contents) : Type 0 where
   pub variables : stack_limit_at < w.words
   pub inside : first + stack ≤ w.words
 
--- The globals' address, the end of the frames and the stack's end are in their registers, and so is the return address; all else stays.
-pub record IsEntered (variables first words from : ℕ) (c c' : Contents) : Type 0 where
+-- The globals' address, the end of the frames and the stack's end are in their registers, and the return address is the layer's entry at which the
+-- kernel is left; all else stays.
+pub record IsEntered (variables first words : ℕ) (c c' : Contents) : Type 0 where
   pub globals : c'.regs GLOBALS ≡ variables
   pub frame : c'.regs FRAME_END ≡ 4 * first
   pub stack : c'.regs STACK_END ≡ 4 * (first + words)
-  pub back : c'.regs RETURN ≡ 4 * from
+  pub back : c'.regs RETURN ≡ LEAVE
   pub regs : (r : ℕ) → r < GLOBALS → c'.regs r ≡ c.regs r
   pub memory : c'.memory ≡ c.memory
   pub hi : c'.hi ≡ c.hi
@@ -136,19 +137,17 @@ pub record IsEntered (variables first words from : ℕ) (c c' : Contents) : Type
 abbrev pub with_half : ℕ → Contents → Contents
 with_half globals c = with_reg c GLOBALS (globals / 2 ^ 16 * 2 ^ 16)
 
--- The entry's first instruction leads behind itself. From there on what stands behind it is enough: it comes to the function's first word within
--- four steps; and from where that returns to, one step leads to the layer's entry that is left by.
+-- The entry's first instruction leads behind itself. From there on what stands behind it is enough: it comes to the word behind it within four
+-- steps.
 pub record EntryRuns (w : World) : Type 0 where
-  pub first : (n globals dispatch : ℕ) (c : Contents) (d : Behind) → CodeAt w n (entry_code globals dispatch) → d.pending ≡ Idle → Reaches w 1
-      (at_with n c d) (at_with (n + 1) (with_half globals c) d)
-  pub enters : (n globals dispatch first stack : ℕ) (c : Contents) (d : Behind) → CodeAt w (n + 1) (behind_first globals (4 * dispatch)) → d.pending ≡ Idle →
-      StackIs w first stack c → RoutineReturns w 4 (n + 1) dispatch (with_half globals c) d (IsEntered globals first stack (n + 5) c)
-  pub leaves : (n globals dispatch : ℕ) (c : Contents) (d : Behind) → CodeAt w (n + 1) (behind_first globals dispatch) → d.pending ≡ Idle → Reaches w 1
-      (at_with (n + 5) c d) (at_with (LEAVE / 4) c d)
+  pub first : (n globals : ℕ) (c : Contents) (d : Behind) → CodeAt w n (startup_code globals) → d.pending ≡ Idle → Reaches w 1 (at_with n c d)
+      (at_with (n + 1) (with_half globals c) d)
+  pub enters : (n globals first stack : ℕ) (c : Contents) (d : Behind) → CodeAt w (n + 1) (behind_first globals) → d.pending ≡ Idle →
+      StackIs w first stack c → RoutineReturns w 4 (n + 1) (n + 5) (with_half globals c) d (IsEntered globals first stack c)
 
 -- each routine stands where its number says, in words from the first routine on
-pub record RoutinesStand (w : World) (n : ℕ) (p : Places) : Type 0 where
-  pub new_object : CodeAt w (n + NEW_OBJECT) new_code
+pub record RoutinesStand (w : World) (n : ℕ) (p : CodeAddresses) : Type 0 where
+  pub new_object : CodeAt w (n + NEW_OBJECT) new_routine
   pub multiply : CodeAt w (n + MULTIPLY) multiply_code
   pub divide : CodeAt w (n + DIVIDE) (divide_code (zero_exit p))
   pub remainder : CodeAt w (n + REMAINDER) (remainder_code (zero_exit p))

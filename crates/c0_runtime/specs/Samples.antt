@@ -5,16 +5,16 @@ use Rattle.mips_table.specs.Device.{Idle}
 use Rattle.mips_table.specs.Code.{Contents, World, on_flat, CodeState, at_with, code_run}
 use Rattle.layer_map.specs.Map.{heap_used_at, heap_words_at, heap_first_at, stack_first_at, stack_limit_at}
 use Rattle.masm.specs.declared.registers.TheConstants.{ANSWER, ARGUMENTS, GLOBALS, FRAME_END, STACK_END, RETURN}
-use Rattle.masm.specs.Standing.{placed}
+use Rattle.masm.specs.Standing.{only_block_at}
 use Rattle.c0_runtime.specs.Code.{multiply_code, divide_code, remainder_code}
 
 -- 4,096 words of memory, with this code from word 2048 on
-abbrev pub world_of : List Inst → World
-world_of is = on_flat (record { code = placed 2048 is; kept = λ k. None; words = 4096; count = 0 })
+abbrev pub sample_world : List Inst → World
+sample_world is = on_flat (record { code = only_block_at 2048 is; kept = λ k. None; words = 4096; count = 0 })
 
 -- A heap of 8 words from word 3000 on, of which 5 are used, and a stack of 64 words from word 3100 on. All other words are 7.
-abbrev pub memory : ℕ → ℕ
-memory k =
+abbrev pub sample_memory : ℕ → ℕ
+sample_memory k =
     if k == heap_used_at then 5 else
     if k == heap_words_at then 8 else
     if k == heap_first_at then 12000 else
@@ -29,12 +29,12 @@ contents size left right = record {
   hi = 1;
   lo = 2;
   special = λ r. 0;
-  memory = memory;
+  memory = sample_memory;
 }
 
 -- the code after so many steps from word 2048 on
-abbrev pub after : List Inst → Contents → ℕ → CodeState
-after is c steps = code_run (world_of is) (at_with 2048 c (record { pending = Idle; commands = 0; sectors = λ s i. 0; log = []; input = [] })) steps
+abbrev pub code_after : List Inst → Contents → ℕ → CodeState
+code_after is c steps = code_run (sample_world is) (at_with 2048 c (record { pending = Idle; commands = 0; sectors = λ s i. 0; log = []; input = [] })) steps
 
 -- an object of three words takes the heap's last words
 pub record LastWords (s : CodeState) : Type 0 where
@@ -60,17 +60,17 @@ pub record RoutineAnswers (answer : ℕ) (s : CodeState) : Type 0 where
 
 -- Products and quotients of -7, 2, the least int and -1. A division by 0 goes to the exit, here at word 50.
 pub record SampleAnswers : Type 0 where
-  pub product : RoutineAnswers 0xfffffff2 (after multiply_code (contents 0 0xfffffff9 2) 3)
-  pub quotient : RoutineAnswers 0xfffffffd (after (divide_code 200) (contents 0 0xfffffff9 2) 4)
-  pub remainder : RoutineAnswers 0xffffffff (after (remainder_code 200) (contents 0 0xfffffff9 2) 4)
-  pub least : RoutineAnswers 0x80000000 (after (divide_code 200) (contents 0 0x80000000 0xffffffff) 4)
-  pub nothing_left : RoutineAnswers 0 (after (remainder_code 200) (contents 0 0x80000000 0xffffffff) 4)
-  pub by_zero : (after (divide_code 200) (contents 0 5 0) 2).at ≡ 50
+  pub product : RoutineAnswers 0xfffffff2 (code_after multiply_code (contents 0 0xfffffff9 2) 3)
+  pub quotient : RoutineAnswers 0xfffffffd (code_after (divide_code 200) (contents 0 0xfffffff9 2) 4)
+  pub remainder : RoutineAnswers 0xffffffff (code_after (remainder_code 200) (contents 0 0xfffffff9 2) 4)
+  pub least : RoutineAnswers 0x80000000 (code_after (divide_code 200) (contents 0 0x80000000 0xffffffff) 4)
+  pub nothing_left : RoutineAnswers 0 (code_after (remainder_code 200) (contents 0 0x80000000 0xffffffff) 4)
+  pub by_zero : (code_after (divide_code 200) (contents 0 5 0) 2).at ≡ 50
 
--- the entry has called the function at word 3, with the registers of the globals (at 0x12345678), of the frames and of the stack set
+-- the entry has come behind itself, with the registers of the globals (at 0x12345678), of the frames, of the stack and of the return address set
 pub record SampleEntered (s : CodeState) : Type 0 where
-  pub at : s.at ≡ 3
+  pub at : s.at ≡ 2053
   pub globals : s.contents.regs GLOBALS ≡ 0x12345678
   pub frames : s.contents.regs FRAME_END ≡ 12400
   pub stack : s.contents.regs STACK_END ≡ 12656
-  pub back : s.contents.regs RETURN ≡ 4 * 2053
+  pub back : s.contents.regs RETURN ≡ 0x2038

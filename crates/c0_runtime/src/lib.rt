@@ -1,5 +1,5 @@
 //! The code that each kernel has beside its functions: the entry, at which the layer calls `dispatch`, and the routines that
-//! [`masm::registers::Places`] names.
+//! [`masm::registers::CodeAddresses`] names.
 //!
 //! | Routine | Takes | Answers in register 2 | Changes |
 //! |---|---|---|---|

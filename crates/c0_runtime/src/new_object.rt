@@ -2,7 +2,7 @@
 
 ghost use Rattle.std.specs.Prelude.{◌≡◌, map};
 ghost use Rattle.mips_table.specs.Encoding.{encoding};
-ghost use Rattle.c0_runtime.specs.Code.{new_code};
+ghost use Rattle.c0_runtime.specs.Code.{new_routine};
 
 use layer_map::{HEAP_FIRST, HEAP_USED, HEAP_WORDS};
 use masm::registers::{ANSWER, RETURN, SCRATCH};
@@ -63,7 +63,7 @@ const NO_ROOM: [Inst; 2] = code! {
 
 // The whole routine.
 pub(crate) fn new_object() -> Block<18>
-    ensures { result ≡ map encoding new_code }
+    ensures { result ≡ map encoding new_routine }
 {
     block! {
         code TEST_ROOM;

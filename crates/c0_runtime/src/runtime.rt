@@ -2,11 +2,11 @@
 
 ghost use Rattle.std.specs.Prelude.{◌≡◌, ◌++◌, ◌<◌, ◌^◌, map, OnOk, OnErr};
 ghost use Rattle.mips_table.specs.Encoding.{encoding};
-ghost use Rattle.masm.specs.Places.{ArePlaces};
-ghost use Rattle.c0_runtime.specs.Code.{new_code, multiply_code, division_code, divide_code, remainder_code, runtime_code};
+ghost use Rattle.masm.specs.CodeAddresses.{AreCodeAddresses};
+ghost use Rattle.c0_runtime.specs.Code.{new_routine, multiply_code, division_routine, divide_code, remainder_code, runtime_code};
 
 use crate::new_object::new_object;
-use masm::registers::{ANSWER, ARGUMENTS, Places, RETURN};
+use masm::registers::{ANSWER, ARGUMENTS, CodeAddresses, RETURN};
 use masm::roles::ZERO;
 use masm::{Block, block, code};
 use mips_table::Inst;
@@ -28,22 +28,26 @@ pub const REMAINDER: u32 = 26;
 /// The words of all routines.
 pub const RUNTIME_WORDS: u32 = 31;
 
-/// Appends the routines that `places` names: `new`, and those that multiply, divide and give the remainder.
+/// Appends the routines that `addresses` names: `new`, and those that multiply, divide and give the remainder.
 ///
 /// Want of memory leaves `code` as it was.
-pub fn emit_runtime(_alloc: Global, places: &Places, code: &mut Vec<u32>) -> Result<(), AllocError>
-    requires { ArePlaces places.now }
-    ensures appended { OnOk result (code.new.items ≡ code.old.items ++ map encoding (runtime_code places.now)) }
+pub fn emit_runtime(
+    _alloc: Global,
+    addresses: &CodeAddresses,
+    code: &mut Vec<u32>,
+) -> Result<(), AllocError>
+    requires { AreCodeAddresses addresses.now }
+    ensures appended { OnOk result (code.new.items ≡ code.old.items ++ map encoding (runtime_code addresses.now)) }
     ensures unchanged { OnErr result (code.new.items ≡ code.old.items) }
 {
-    let all = routines(places.faults[2]);
+    let all = routines(addresses.faults[2]);
     code.extend_from_slice(all.words())
 }
 
 // All routines.
 fn routines(exit: u32) -> Block<31>
     requires { exit < 2 ^ 28 }
-    ensures { result ≡ map encoding (new_code ++ (multiply_code ++ (divide_code exit ++ remainder_code exit))) }
+    ensures { result ≡ map encoding (new_routine ++ (multiply_code ++ (divide_code exit ++ remainder_code exit))) }
 {
     block! {
         then new_object();
@@ -84,7 +88,7 @@ const GIVE_REMAINDER: [Inst; 2] = code! {
 // The first two arguments are divided, unless the second is 0.
 fn division(exit: u32) -> Block<3>
     requires { exit < 2 ^ 28 }
-    ensures { result ≡ map encoding (division_code exit) }
+    ensures { result ≡ map encoding (division_routine exit) }
 {
     block! {
         bne ARGUMENTS + 1, ZERO, 1;     // over the next line

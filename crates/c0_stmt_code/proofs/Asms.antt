@@ -30,12 +30,12 @@ use Rattle.c0_asm_body.specs.Laws.{HoldInts, AsmRuns}
 use Rattle.c0_stmt_code.specs.Code.{large_code, end_code, stack_test, body_code, function_code}
 use Rattle.c0_stmt_code.specs.Setup.{Setup}
 use Rattle.c0_stmt_code.specs.Journey.{Led}
-use Rattle.c0_stmt_code.specs.Ahead.{Activation, Awaits, Ahead}
+use Rattle.c0_stmt_code.specs.Ahead.{Activation, Awaits, Ahead, AnswerIsLive, WaitingAreLive}
 use Rattle.c0_stmt_code.specs.Standing.{text, scope, bases, end_of, unit_scope, word_of_value, AreIn, Waiting, UnderWay, ConfigurationStands}
 use Rattle.c0_stmt_code.proofs.Premises.{HeldStays, AreInts}
 use Rattle.c0_stmt_code.proofs.RunStretches.{Way, on, of, away}
 use Rattle.c0_stmt_code.proofs.Blocks.{front, back}
-use Rattle.c0_stmt_code.proofs.State.{standing_at}
+use Rattle.c0_stmt_code.proofs.FunctionsUnderWay.{standing_at}
 use Rattle.c0_stmt_code.proofs.MemoryAccess.{read_is}
 use Rattle.c0_stmt_code.proofs.Rooms.{variables_same}
 use Rattle.c0_stmt_code.proofs.Frames.{tested}
@@ -75,7 +75,7 @@ module _ (runs : RunLaws) (compose : RunsCompose) (W E : Type 0) (Outer : W → 
       (st : ConfigurationStands W E Outer z objects (standing_at gv hv hw fs world calls answer) c d) (waits : Waiting W E Outer z objects c.memory acts fs) (at_end : c.regs 29 ≡ 4 * end_of W E Outer z fs)
       (n to debt : ℕ) (f : CFunction) (is : slice_get z.p.unit.functions n ≡ Some f) (args : Values) (target : Target) (work : List Work) (return_at : c.regs 31 ≡ 4 * to)
       (fits : AllFit (shapes z.p.unit) (store_typing z.p.unit objects) (types_of (map typed_of f.params)) args) (arguments : AreIn (unit_scope z.p.unit) (bases W E Outer z objects []) c.regs 20 args)
-      (ahead : Awaits (text W E Outer z) acts to debt (ty_of f.answer) target work (λ others at left. Ahead (text W E Outer z) others at left work)) where
+      (ahead : Awaits (text W E Outer z) acts to debt (ty_of f.answer) target work (λ others at left. Ahead (text W E Outer z) others at left work)) (live : AnswerIsLive acts target work (λ below. WaitingAreLive below work)) where
     abbrev sc : Scope
     sc = scope W E Outer z f
 
@@ -89,7 +89,7 @@ module _ (runs : RunLaws) (compose : RunsCompose) (W E : Type 0) (Outer : W → 
     handed : (l m : ℕ) (cost : Cost) (h0 : Configuration W E) (s0 : CodeState) (v : Value) (t : Ty) (c' : Contents) → Path runs compose W E Outer z jumps l m s0 (at_with to c' d) → cost.own ≤ 2048 * l → m ≤ 30 * cost.own → length calls ≡ calls_ended h0
         → c'.memory ≡ c.memory → c'.special ≡ c.special → ((x : ℕ) → 28 ≤ x → c'.regs x ≡ c.regs x) → Fits (shapes z.p.unit) (store_typing z.p.unit objects) t v → c'.regs 2 ≡ word_of_value W E Outer z objects v → ty_of f.answer ≡ t
         → GoesOn W E Outer z debt h0 s0 (deliver cost target v work here)
-    handed l m cost h0 s0 v t c' path low_paid high_paid en memory special high fits is2 types = by_target acts fs waits target work ahead refl
+    handed l m cost h0 s0 v t c' path low_paid high_paid en memory special high fits is2 types = by_target acts fs waits target work ahead live refl
       where
         st2 : ConfigurationStands W E Outer z objects here c' d
         st2 = stands_soft runs compose W E Outer z jumps objects here c c' d memory special (high 28 (omega arith)) (high 30 (omega arith)) st
@@ -97,9 +97,9 @@ module _ (runs : RunLaws) (compose : RunsCompose) (W E : Type 0) (Outer : W → 
         led_to : (h' : Configuration W E) → h'.calls ≡ calls → Led z.w cost.own debt debt h0 h' s0 (at_with to c' d)
         led_to h' e = let le = path.high in let ge = path.low in let n = ap length e in record { own = path.own; high = omega (arith, le, high_paid); low = omega (arith, ge, low_paid); ended_so = n ∙ en; run = path.run }
 
-        by_target : (acts : List Activation) (frames : List Frame) → Waiting W E Outer z objects c.memory acts frames → (target : Target) (work : List Work) → Awaits (text W E Outer z) acts to debt (ty_of f.answer) target work (λ acts at left. Ahead (text W E Outer z) acts at left work) → frames ≡ fs
+        by_target : (acts : List Activation) (frames : List Frame) → Waiting W E Outer z objects c.memory acts frames → (target : Target) (work : List Work) → Awaits (text W E Outer z) acts to debt (ty_of f.answer) target work (λ acts at left. Ahead (text W E Outer z) acts at left work) → AnswerIsLive acts target work (λ below. WaitingAreLive below work) → frames ≡ fs
             → GoesOn W E Outer z debt h0 s0 (deliver cost target v work here)
-        by_target (b ∷ more) (q ∷ frames) w (into place rest) work ah e = (
+        by_target (b ∷ more) (q ∷ frames) w (into place rest) work ah lv e = (
           at_with to c' d,
           debt,
           led_to here refl,
@@ -112,7 +112,7 @@ module _ (runs : RunLaws) (compose : RunsCompose) (W E : Type 0) (Outer : W → 
                 is = w.0.is;
                 return_at = ap (λ y. if y then c'.memory (end_of W E Outer z frames) else c'.regs 31) w.0.calls ∙ ap (λ m. m (end_of W E Outer z frames)) memory ∙ w.0.return_at;
                 frame_at = high 29 (omega arith) ∙ at_end ∙ ap (λ y. 4 * end_of W E Outer z y) (sym e) ∙ sym (ap (λ y. 4 * (if y then end_of W E Outer z frames else end_of W E Outer z (q ∷ frames))) w.0.in_frame);
-                variables = variables_same W E Outer z held objects c.memory c'.regs c.memory c'.memory b.function q frames true w.0.in_frame w.0.is (λ x le lt. ap (λ m. m x) memory) w.0.variables;
+                variables = variables_same W E Outer z held objects b.live c.memory c'.regs c.memory c'.memory b.function q frames true w.0.in_frame w.0.is (λ x le lt. ap (λ m. m x) memory) w.0.variables;
               },
               subst (λ m. Waiting W E Outer z objects m more frames) (sym memory) w.1,
             );
@@ -120,9 +120,10 @@ module _ (runs : RunLaws) (compose : RunsCompose) (W E : Type 0) (Outer : W → 
             fits = fits;
             answer = is2;
             ahead = subst (λ y. Awaits (text W E Outer z) (b ∷ more) to debt y (into place rest) work (λ acts at left. Ahead (text W E Outer z) acts at left work)) types ah;
+            live = lv;
           },
         )
-        by_target [] [] w outward [] ah e = (
+        by_target [] [] w outward [] ah lv e = (
           at_with to c' d,
           debt,
           led_to (record here { answer = Some v }) refl,
@@ -136,11 +137,11 @@ module _ (runs : RunLaws) (compose : RunsCompose) (W E : Type 0) (Outer : W → 
             answer = is2;
           },
         )
-        by_target [] [] w outward (i ∷ work) ah e = absurd ah
-        by_target [] [] w (into place rest) work ah e = absurd ah
-        by_target (b ∷ more) (q ∷ frames) w outward work ah e = absurd ah
-        by_target [] (q ∷ frames) w target work ah e = absurd w
-        by_target (b ∷ more) [] w target work ah e = absurd w
+        by_target [] [] w outward (i ∷ work) ah lv e = absurd ah
+        by_target [] [] w (into place rest) work ah lv e = absurd ah
+        by_target (b ∷ more) (q ∷ frames) w outward work ah lv e = absurd ah
+        by_target [] (q ∷ frames) w target work ah lv e = absurd w
+        by_target (b ∷ more) [] w target work ah lv e = absurd w
 
     test_some : 1 ≤ length (stack_test sc 1)
     test_some = omega (arith, length-append (large_code sc) (end_code 1 (4 * sc.frame) ++ (Sltu 1 30 1 ∷ Beq 1 0 1 ∷ J (sc.exit StackOut) ∷ [])), length-append (end_code 1 (4 * sc.frame)) (Sltu 1 30 1 ∷ Beq 1 0 1 ∷ J (sc.exit StackOut) ∷ []))

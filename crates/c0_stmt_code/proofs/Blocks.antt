@@ -13,7 +13,7 @@ use Rattle.std.specs.Prelude.{IsTrue}
 use Rattle.std.proofs.lemmas.Bool.{and_parts}
 use Rattle.c0_expr_code.specs.Scope.{is_free_of_calls, are_free_of_calls}
 use Rattle.c0_stmt_code.specs.Code.{is_calling, are_calling, calls_in, skip, stmt_code, stmts_code}
-use Rattle.c0_stmt_code.specs.Ahead.{Activation, Text, env_in, MAX_NODES, Skips, Block, Ahead}
+use Rattle.c0_stmt_code.specs.Ahead.{Activation, Text, body_env, MAX_NODES, Skips, Block, Ahead}
 use Rattle.c0_stmt_code.proofs.RunStretches.{Way, none, on, within, away}
 
 module _ (runs : RunLaws) (compose : RunsCompose) (w : World) (jumps : JumpsLead w) where
@@ -55,11 +55,11 @@ back w m (i ∷ a) b g = let e : m + 1 + length a ≡ m + length (i ∷ a) = ome
 
 module _ (x : Text) (f : CFunction) (follows : ℕ → ℕ → Type 0) where
   -- statements stand at a word, and jumps behind them lead to what follows
-  pub block_of : (ss : CStmts) (k n to left debt : ℕ) → AreNumbered (env_in x f) ss → stmts_nodes ss ≤ MAX_NODES → ((x.scope f).in_registers ≡ true → IsTrue (are_free_of_calls ss)) → (IsTrue (are_calling ss) → calls_in f.body ≡ true) → CodeAt x.w k (stmts_code (x.scope f) x.links ss)
+  pub block_of : (ss : CStmts) (k n to left debt : ℕ) → AreNumbered (body_env x f) ss → stmts_nodes ss ≤ MAX_NODES → ((x.scope f).in_registers ≡ true → IsTrue (are_free_of_calls ss)) → (IsTrue (are_calling ss) → calls_in f.body ≡ true) → CodeAt x.w k (stmts_code (x.scope f) x.links ss)
       → Skips x.w n (k + length (stmts_code (x.scope f) x.links ss)) to → debt ≡ n + left → follows to left → Block x f k debt ss follows
   block_of done k n to left debt typed few free calls code skips e h = (n, to, left, e, subst (λ y. Skips x.w n y to) (omega arith) skips, h)
   block_of (next t rest) k n to left debt typed few free calls code skips e h =
-      let g = first_typed (env_in x f) t rest typed in
+      let g = first_typed (body_env x f) t rest typed in
       let le : k + length (stmt_code (x.scope f) x.links t ++ stmts_code (x.scope f) x.links rest) ≡ k + length (stmt_code (x.scope f) x.links t) + length (stmts_code (x.scope f) x.links rest) = omega (arith, length-append (stmt_code (x.scope f) x.links t) (stmts_code (x.scope f) x.links rest)) in (
         record { typed = g.0; few = omega (arith, few); free = λ e. (and_parts (is_free_of_calls t) (are_free_of_calls rest) (free e)).0; calls = λ e. calls (or_left (is_calling t) (are_calling rest) e); code = front x.w k (stmt_code (x.scope f) x.links t) (stmts_code (x.scope f) x.links rest) code },
         block_of rest (k + length (stmt_code (x.scope f) x.links t)) n to left debt g.1 (omega (arith, few)) (λ e. (and_parts (is_free_of_calls t) (are_free_of_calls rest) (free e)).1) (λ e. calls (or_right (is_calling t) (are_calling rest) e)) (back x.w k (stmt_code (x.scope f) x.links t) (stmts_code (x.scope f) x.links rest) code) (subst (λ y. Skips x.w n y to) le skips) e h,

@@ -1,9 +1,9 @@
 -- What the emitters' proofs need: code that a loop appends piece by piece, and the words of a frame.
 use Rattle.std.specs.Prelude.{IsTrue}
-use Rattle.std.proofs.Common.{◌≡◌, ℕ, suc, ◌+◌, ◌-◌, ◌<◌, List, [], ◌∷◌, ◌++◌, length, map, refl, sym, ap, ◌∙◌, arith, add-one, append_assoc}
+use Rattle.std.proofs.Common.{◌≡◌, Bool, ℕ, suc, ◌+◌, ◌-◌, ◌<◌, List, [], ◌∷◌, ◌++◌, length, map, refl, sym, ap, ◌∙◌, arith, add-one, append_assoc}
 use Rattle.std.proofs.lemmas.List.{map-append}
 use Rattle.mips_table.specs.declared.inst.Inst.{Inst}
-use Rattle.mips_table.specs.declared.inst.Inst.TheVariants.{Addu, Sw}
+use Rattle.mips_table.specs.declared.inst.Inst.TheVariants.{Sw}
 use Rattle.mips_table.specs.Encoding.{encoding}
 use Rattle.masm.specs.declared.registers.TheConstants.{SCRATCH}
 use Rattle.c0_tree.specs.Tree.{CDecl}
@@ -16,8 +16,8 @@ use Rattle.c0_meaning.specs.Typed.{UnitsAreFaultless}
 use Rattle.c0_meaning.specs.TypedState.{types_of}
 use Rattle.c0_meaning.specs.Words.{words, all_words}
 use Rattle.c0_expr_code.specs.Scope.{Scope}
-use Rattle.c0_expr_code.specs.Code.{access_code, register_of}
-use Rattle.c0_stmt_code.specs.Code.{clear_code, frame_slot, params_code, zeros_code}
+use Rattle.c0_expr_code.specs.Code.{access_code, register_of_variable}
+use Rattle.c0_stmt_code.specs.Code.{clear_code, clear_one, frame_slot, params_code, zero_code, zeros_code}
 use Rattle.c0_stmt_code.specs.EmitLeaf.{FramesAreThose}
 use Rattle.c0_stmt_code.proofs.Premises.{AllScalar}
 use Rattle.c0_stmt_code.proofs.ExpressionLaws.{functions_are}
@@ -35,25 +35,26 @@ one_less n i h = omega (arith, h)
 
 -- the stores of arguments to the frame
 pub params_next : (sc : Scope) (n i : ℕ) → i < n
-    → params_code sc (n - i) i ≡ access_code (λ b k. Sw (register_of i) b k) SCRATCH (frame_slot sc (3 + i)) ++ params_code sc (n - (i + 1)) (i + 1)
+    → params_code sc (n - i) i ≡ access_code (λ b k. Sw (register_of_variable i) b k) SCRATCH (frame_slot sc (3 + i)) ++ params_code sc (n - (i + 1)) (i + 1)
 params_next sc n i h =
     ap (λ (k : ℕ). params_code sc k i) (one_less n i h)
-    ∙ ap (λ (j : ℕ). access_code (λ b k. Sw (register_of i) b k) SCRATCH (frame_slot sc (3 + i)) ++ params_code sc (n - (i + 1)) j) (sym (add-one i))
+    ∙ ap (λ (j : ℕ). access_code (λ b k. Sw (register_of_variable i) b k) SCRATCH (frame_slot sc (3 + i)) ++ params_code sc (n - (i + 1)) j) (sym (add-one i))
 
 -- the stores of 0 to words of the frame
-pub zeros_next : (sc : Scope) (n first i : ℕ) → i < n
-    → zeros_code sc (n - i) (first + i) ≡ access_code (λ b k. Sw 0 b k) SCRATCH (frame_slot sc (first + i)) ++ zeros_code sc (n - (i + 1)) (first + (i + 1))
-zeros_next sc n first i h =
+pub zeros_next : (sc : Scope) (cleared : ℕ → Bool) (n first i : ℕ) → i < n
+    → zeros_code sc cleared (n - i) (first + i) ≡ zero_code sc (cleared (first + i)) (first + i) ++ zeros_code sc cleared (n - (i + 1)) (first + (i + 1))
+zeros_next sc cleared n first i h =
     let e : suc (first + i) ≡ first + (i + 1) = omega arith in
-    ap (λ (k : ℕ). zeros_code sc k (first + i)) (one_less n i h)
-    ∙ ap (λ (j : ℕ). access_code (λ b k. Sw 0 b k) SCRATCH (frame_slot sc (first + i)) ++ zeros_code sc (n - (i + 1)) j) e
+    ap (λ (k : ℕ). zeros_code sc cleared k (first + i)) (one_less n i h)
+    ∙ ap (λ (j : ℕ). zero_code sc (cleared (first + i)) (first + i) ++ zeros_code sc cleared (n - (i + 1)) j) e
 
 -- the registers of variables that become 0
-pub clear_next : (n first i : ℕ) → i < n → clear_code (n - i) (first + i) ≡ Addu (register_of (first + i)) 0 0 ∷ clear_code (n - (i + 1)) (first + (i + 1))
-clear_next n first i h =
+pub clear_next : (cleared : ℕ → Bool) (n first i : ℕ) → i < n
+    → clear_code cleared (n - i) (first + i) ≡ clear_one (cleared (first + i)) (first + i) ++ clear_code cleared (n - (i + 1)) (first + (i + 1))
+clear_next cleared n first i h =
     let e : suc (first + i) ≡ first + (i + 1) = omega arith in
-    ap (λ (k : ℕ). clear_code k (first + i)) (one_less n i h)
-    ∙ ap (λ (j : ℕ). Addu (register_of (first + i)) 0 0 ∷ clear_code (n - (i + 1)) j) e
+    ap (λ (k : ℕ). clear_code cleared k (first + i)) (one_less n i h)
+    ∙ ap (λ (j : ℕ). clear_one (cleared (first + i)) (first + i) ++ clear_code cleared (n - (i + 1)) j) e
 
 -- a scalar has one word
 scalar_words : (structs : List Shape) (t : Ty) → IsTrue (is_scalar t) → words structs t ≡ 1
@@ -72,6 +73,6 @@ scalars_count structs (d ∷ ds) h =
     omega (arith, one, rest)
 
 pub frames_fit : NumbersTell → UnitsAreFaultless → FramesAreThose
-frames_fit numbers faultless primitives u n f places well is =
+frames_fit numbers faultless primitives u n f addresses well is =
     let count = scalars_count (shapes u) f.params ((functions_are numbers faultless primitives u well).scalars n f is) in
     omega (arith, count)

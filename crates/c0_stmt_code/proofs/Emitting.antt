@@ -39,7 +39,7 @@ otherwise_long (next s rest) is = omega arith
 pub otherwise_fits : (old new : List ℕ) (ss : CStmts) (is : List Inst) → new ≡ old ++ map encoding (otherwise ss is) → length old + otherwise_at ss ≤ length new
 otherwise_fits old new ss is e = omega (arith, ap length e, length-append old (map encoding (otherwise ss is)), length-map (otherwise ss is) encoding, otherwise_long ss is)
 
--- a list of places that was empty
+-- a list of addresses that was empty
 pub from_none : (old new marked marks : List ℕ) (x : Unpatched) → marked ≡ [] → StandsUnpatched old new marked marks x → StandsUnpatched old new [] marks x
 from_none old new marked marks x none opened = subst (λ m. StandsUnpatched old new m marks x) none opened
 

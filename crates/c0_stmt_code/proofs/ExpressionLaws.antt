@@ -23,11 +23,11 @@ use Rattle.c0_expr_code.specs.Bases.{words_of_all}
 use Rattle.c0_expr_code.specs.Relation.{StateIsTyped, Area}
 use Rattle.c0_expr_code.specs.Laws as below
 use Rattle.c0_stmt_code.specs.Setup.{Setup}
-use Rattle.c0_stmt_code.specs.Ahead.{env_in}
+use Rattle.c0_stmt_code.specs.Ahead.{body_env}
 use Rattle.c0_stmt_code.specs.Standing.{text, scope, bases}
 use Rattle.c0_stmt_code.proofs.Premises.{AreInts, FunctionsAre, AllScalar}
 use Rattle.c0_stmt_code.proofs.Rooms.{frame_on, words_by_types}
-use Rattle.c0_stmt_code.proofs.State.{Exprs}
+use Rattle.c0_stmt_code.proofs.FunctionsUnderWay.{Exprs}
 
 at_number : {A : Type 0} (P : A → Type 0) (xs : List A) (i : ℕ) (x : A) → All P xs → slice_get xs i ≡ Some x → P x
 at_number P [] i x a e = cc
@@ -38,7 +38,7 @@ given_in : (names : below.NamesAreEnough) (a b : Env) → below.HaveSameNames a 
 given_in names a b same e t (a_value h) = a_value (names a b same e t h)
 given_in names a b same _ _ a_null = a_null
 
-module _ (typed_run : below.ExpressionsRun) (given_run : below.GivenRun) (tests_run : below.TestsRun) (names : below.NamesAreEnough) (areas : below.AreasHold) (W E : Type 0) (Outer : W → Contents → Behind → Type 0) (z : Setup W E Outer) where
+module _ (places_run : below.PlacesRun) (given_run : below.GivenRun) (tests_run : below.TestsRun) (names : below.NamesAreEnough) (areas : below.AreasHold) (W E : Type 0) (Outer : W → Contents → Behind → Type 0) (z : Setup W E Outer) where
   pub area : (objects : List Ty) (g : Frame) (fs : List Frame) (f : CFunction) → slice_get z.p.unit.functions g.function ≡ Some f → AreDeclared (shapes z.p.unit) objects → words_of_all (shapes z.p.unit) objects ≤ z.p.heap → stack_words z.p.unit (g ∷ fs) ≤ z.p.stack
       → Area z.w (scope W E Outer z f) (bases W E Outer z objects (g ∷ fs))
   area objects g fs f is declared room stack =
@@ -48,7 +48,7 @@ module _ (typed_run : below.ExpressionsRun) (given_run : below.GivenRun) (tests_
       let sf = z.stack_fits in
       let lo = z.low in
       let wt = words_by_types (shapes z.p.unit) (map typed_of z.p.unit.globals) in
-      areas z.table z.p.unit z.well_formed f g.function is z.places z.w (bases W E Outer z objects (g ∷ fs))
+      areas z.table z.p.unit z.well_formed f g.function is z.addresses z.w (bases W E Outer z objects (g ∷ fs))
       (record { from = omega (arith, lo); heap = omega (arith, room, hf, sf); frame = omega (arith, stack, sf); inside = omega (arith, on) })
       (record { heap_behind = omega (arith, gf, wt); frame_behind = omega (arith, hf, room, on) }) declared
 
@@ -67,15 +67,15 @@ module _ (typed_run : below.ExpressionsRun) (given_run : below.GivenRun) (tests_
       some_same q = cc
 
   pub exprs : Exprs W E Outer z
-  exprs objects s g fs f e is typed declared room stack =
+  exprs objects s g fs f live e is typed declared room stack =
       let ar = area objects g fs f is declared room stack in
       let sn = is_typed objects s (g ∷ fs) g fs f e refl is typed in
-      let same : below.HaveSameNames (env_in (text W E Outer z) f) (scope W E Outer z f).env = record { structs = refl; globals = refl; locals = refl } in
+      let same : below.HaveSameNames (body_env (text W E Outer z) f) (scope W E Outer z f).env = record { structs = refl; globals = refl; locals = refl } in
       record {
-        value = λ x t given scalar few. (given_run z.w (scope W E Outer z f) (bases W E Outer z objects (g ∷ fs)) s z.sound ar sn x t (given_in names (env_in (text W E Outer z) f) (scope W E Outer z f).env same x t given) few).value scalar;
-        operand = λ x t given scalar few. (given_run z.w (scope W E Outer z f) (bases W E Outer z objects (g ∷ fs)) s z.sound ar sn x t (given_in names (env_in (text W E Outer z) f) (scope W E Outer z f).env same x t given) few).operand scalar;
-        place = λ x t left few stands. (typed_run z.w (scope W E Outer z f) (bases W E Outer z objects (g ∷ fs)) s z.sound ar sn x t (names (env_in (text W E Outer z) f) (scope W E Outer z f).env same x t left.typed) few).place left.place stands;
-        test = λ x given few. tests_run z.w (scope W E Outer z f) (bases W E Outer z objects (g ∷ fs)) s z.sound ar sn x (given_in names (env_in (text W E Outer z) f) (scope W E Outer z f).env same x ty.bool given) few;
+        value = λ x t given scalar few cover. (given_run z.w (scope W E Outer z f) (bases W E Outer z objects (g ∷ fs)) live s z.sound ar sn x t (given_in names (body_env (text W E Outer z) f) (scope W E Outer z f).env same x t given) few cover).value scalar;
+        operand = λ x t given scalar few cover. (given_run z.w (scope W E Outer z f) (bases W E Outer z objects (g ∷ fs)) live s z.sound ar sn x t (given_in names (body_env (text W E Outer z) f) (scope W E Outer z f).env same x t given) few cover).operand scalar;
+        place = λ x t left few stands cover. places_run z.w (scope W E Outer z f) (bases W E Outer z objects (g ∷ fs)) live s z.sound ar sn x t (names (body_env (text W E Outer z) f) (scope W E Outer z f).env same x t left.typed) few cover left.place stands;
+        test = λ x given few cover. tests_run z.w (scope W E Outer z f) (bases W E Outer z objects (g ∷ fs)) live s z.sound ar sn x (given_in names (body_env (text W E Outer z) f) (scope W E Outer z f).env same x ty.bool given) few cover;
       }
 
 -- functions of a unit that is well formed

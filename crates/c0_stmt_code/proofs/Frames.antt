@@ -1,6 +1,6 @@
 -- The begin of a function that has a frame: the stack's test, and the frame's words, one store or turn after another.
-use Rattle.std.specs.Prelude.{Some, None, nat_lt}
-use Rattle.std.proofs.Common.{◌≡◌, ◌≢◌, inl, inr, ℕ, zero, suc, ◌+◌, ◌-◌, ◌*◌, ◌%◌, ◌^◌, ◌<◌, ◌≤◌, ◌⊎◌, true, false, not, nat_eq, [], ◌∷◌, ◌++◌, length, refl, sym, ap, ◌∙◌, subst, arith, eq-eqb, ne_eqb, lt-ltb, le-ltb, length-append}
+use Rattle.std.specs.Prelude.{Some, None, nat_lt, IsTrue}
+use Rattle.std.proofs.Common.{◌≡◌, ◌≢◌, inl, inr, ℕ, zero, suc, ◌+◌, ◌-◌, ◌*◌, ◌%◌, ◌^◌, ◌<◌, ◌≤◌, ◌⊎◌, Bool, true, false, not, nat_eq, [], ◌∷◌, ◌++◌, length, refl, sym, ap, ◌∙◌, subst, arith, eq-eqb, ne_eqb, lt-ltb, le-ltb, length-append}
 use Rattle.std.proofs.lemmas.Bool.{cases_Bool, cond-true, cond-false, ltb-true, ltb-false}
 use Rattle.mips_table.specs.declared.inst.Inst.TheVariants.{Addiu, Sltu, Beq, Bne, J, Sw}
 use Rattle.mips_table.specs.Arith.{sum, flag}
@@ -10,8 +10,8 @@ use Rattle.masm.specs.Says.{Gives, Writes}
 use Rattle.masm.specs.Laws.{RunsCompose, StraightRuns, JumpsLead}
 use Rattle.c0_meaning.specs.Operators.{StackOut}
 use Rattle.c0_expr_code.specs.Scope.{Scope}
-use Rattle.c0_expr_code.specs.Code.{is_near, low, frame_back, register_of, access_code}
-use Rattle.c0_stmt_code.specs.Code.{MAX_STACK, frame_slot, end_code, stack_test, params_code, zeros_code}
+use Rattle.c0_expr_code.specs.Code.{is_near, low, frame_back, register_of_variable, access_code}
+use Rattle.c0_stmt_code.specs.Code.{MAX_STACK, frame_slot, end_code, stack_test, params_code, zero_code, zeros_code}
 use Rattle.c0_stmt_code.proofs.RunStretches.{Way, on, of, away, within}
 use Rattle.c0_stmt_code.proofs.Blocks.{front, back}
 use Rattle.c0_stmt_code.proofs.Rooms.{put_same, put_other}
@@ -147,6 +147,40 @@ module _ (compose : RunsCompose) (w : World) (sound : Sound w) (straight : Strai
           ap c.memory here ∙ h.others at (inl (omega arith)) ∙ ap (λ m. m at) wrote.memory ∙ put_same a.memory at v ∙ sym e
       by_number (suc j) lt = let here : at + suc j ≡ at + 1 + j = omega arith in ap c.memory here ∙ h.words j (omega (arith, lt))
 
+  -- of so many words of memory those are 0 that are to be cleared, from number i on, and the others outside are as they were
+  pub record Zeroed (at count : ℕ) (cleared : ℕ → Bool) (i : ℕ) (b c : Contents) : Type 0 where
+    pub words : (j : ℕ) → j < count → IsTrue (cleared (i + j)) → c.memory (at + j) ≡ 0
+    pub others : (x : ℕ) → (x < at) ⊎ (at + count ≤ x) → c.memory x ≡ b.memory x
+    pub special : c.special ≡ b.special
+    pub regs : (x : ℕ) → x ≢ 1 → x ≢ 2 → c.regs x ≡ b.regs x
+
+  -- where all of them are
+  pub zeroed_all : (at count : ℕ) (cleared : ℕ → Bool) (i : ℕ) (b c : Contents) → Filled at count (λ j. 0) b c → Zeroed at count cleared i b c
+  zeroed_all at count cleared i b c h = record { words = λ j lt wanted. h.words j lt; others = h.others; special = h.special; regs = h.regs }
+
+  -- one word, and then others behind it
+  zeroed_on : (at count : ℕ) (cleared : ℕ → Bool) (i : ℕ) (a b c : Contents) → (IsTrue (cleared i) → b.memory at ≡ 0) → ((x : ℕ) → x ≢ at → b.memory x ≡ a.memory x) → b.special ≡ a.special
+      → ((x : ℕ) → x ≢ 1 → b.regs x ≡ a.regs x) → Zeroed (at + 1) count cleared (suc i) b c → Zeroed at (suc count) cleared i a c
+  zeroed_on at count cleared i a b c here same special regs h = record {
+    words = by_number;
+    others = λ x side. elim side [
+      | inl lt ↦ h.others x (inl (omega (arith, lt))) ∙ same x (λ q. absurd (omega (arith, q, lt)))
+      | inr le ↦ h.others x (inr (omega (arith, le))) ∙ same x (λ q. absurd (omega (arith, q, le)))
+    ];
+    special = h.special ∙ special;
+    regs = λ x ne me. h.regs x ne me ∙ regs x ne;
+  }
+    where
+      by_number : (j : ℕ) → j < suc count → IsTrue (cleared (i + j)) → c.memory (at + j) ≡ 0
+      by_number zero lt wanted =
+          let at_is : at + 0 ≡ at = omega arith in
+          let number : i + 0 ≡ i = omega arith in
+          ap c.memory at_is ∙ h.others at (inl (omega arith)) ∙ here (subst (λ m. IsTrue (cleared m)) number wanted)
+      by_number (suc j) lt wanted =
+          let at_is : at + suc j ≡ at + 1 + j = omega arith in
+          let number : i + suc j ≡ suc i + j = omega arith in
+          ap c.memory at_is ∙ h.words j (omega (arith, lt)) (subst (λ m. IsTrue (cleared m)) number wanted)
+
   pub filled_none : (at : ℕ) (value : ℕ → ℕ) (c : Contents) → Filled at 0 value c c
   filled_none at value c = record { words = λ j lt. absurd (omega (arith, lt)); others = λ x side. refl; special = refl; regs = λ x ne me. refl }
 
@@ -164,22 +198,22 @@ module _ (compose : RunsCompose) (w : World) (sound : Sound w) (straight : Strai
         → (c' : Contents) × Filled ((e - sc.frame) + 3 + i) n (λ j. c.regs (20 + i + j)) c c' × Reaches w (3 * n) (at_with k c d) (at_with (k + length (params_code sc n i)) c' d)
     params_run zero i k c d idle room few at code = (c, filled_none ((e - sc.frame) + 3 + i) (λ j. c.regs (20 + i + j)) c, subst (λ m. Reaches w 0 (at_with k c d) (at_with m c d)) (omega arith) (compose.none w (at_with k c d)))
     params_run (suc n) i k c d idle room few at code =
-        let access = access_code (λ y x. Sw (register_of i) y x) 1 (frame_slot sc (3 + i)) in
-        let q : register_of i ≡ 20 + i = omega (arith, few) in
-        let first = to_frame (register_of i) (3 + i) k c d idle (λ z. absurd (omega (arith, z, q))) (omega (arith, room)) at (front w k (access_code (λ y x. Sw (register_of i) y x) 1 (frame_slot sc (3 + i))) (params_code sc n (suc i)) code) in
+        let access = access_code (λ y x. Sw (register_of_variable i) y x) 1 (frame_slot sc (3 + i)) in
+        let q : register_of_variable i ≡ 20 + i = omega (arith, few) in
+        let first = to_frame (register_of_variable i) (3 + i) k c d idle (λ z. absurd (omega (arith, z, q))) (omega (arith, room)) at (front w k (access_code (λ y x. Sw (register_of_variable i) y x) 1 (frame_slot sc (3 + i))) (params_code sc n (suc i)) code) in
         let kept : first.0.regs 29 ≡ 4 * e = first.1.others 29 (λ z. absurd (omega (arith, z))) (λ z. absurd (omega (arith, z))) ∙ at in
-        let rest = params_run n (suc i) (k + length (access_code (λ y x. Sw (register_of i) y x) 1 (frame_slot sc (3 + i)))) first.0 d idle (omega (arith, room)) (omega (arith, few)) kept (back w k (access_code (λ y x. Sw (register_of i) y x) 1 (frame_slot sc (3 + i))) (params_code sc n (suc i)) code) in
-        let len : k + length (access_code (λ y x. Sw (register_of i) y x) 1 (frame_slot sc (3 + i))) + length (params_code sc n (suc i)) ≡ k + length (params_code sc (suc n) i) = omega (arith, length-append (access_code (λ y x. Sw (register_of i) y x) 1 (frame_slot sc (3 + i))) (params_code sc n (suc i))) in
-        let value : reg c.regs (register_of i) ≡ c.regs (20 + i + 0) = read_is c.regs (register_of i) (λ z. absurd (omega (arith, z, q))) ∙ ap c.regs (omega (arith, q)) in
+        let rest = params_run n (suc i) (k + length (access_code (λ y x. Sw (register_of_variable i) y x) 1 (frame_slot sc (3 + i)))) first.0 d idle (omega (arith, room)) (omega (arith, few)) kept (back w k (access_code (λ y x. Sw (register_of_variable i) y x) 1 (frame_slot sc (3 + i))) (params_code sc n (suc i)) code) in
+        let len : k + length (access_code (λ y x. Sw (register_of_variable i) y x) 1 (frame_slot sc (3 + i))) + length (params_code sc n (suc i)) ≡ k + length (params_code sc (suc n) i) = omega (arith, length-append (access_code (λ y x. Sw (register_of_variable i) y x) 1 (frame_slot sc (3 + i))) (params_code sc n (suc i))) in
+        let value : reg c.regs (register_of_variable i) ≡ c.regs (20 + i + 0) = read_is c.regs (register_of_variable i) (λ z. absurd (omega (arith, z, q))) ∙ ap c.regs (omega (arith, q)) in
         let place : (e - sc.frame) + 3 + suc i ≡ (e - sc.frame) + (3 + i) + 1 = omega arith in
         let place0 : (e - sc.frame) + (3 + i) ≡ (e - sc.frame) + 3 + i = omega arith in (
           rest.0,
-          subst (λ m. Filled m (suc n) (λ j. c.regs (20 + i + j)) c rest.0) place0 (filled_on ((e - sc.frame) + (3 + i)) n (reg c.regs (register_of i)) (λ j. c.regs (20 + i + j)) c first.0 rest.0 first.1
+          subst (λ m. Filled m (suc n) (λ j. c.regs (20 + i + j)) c rest.0) place0 (filled_on ((e - sc.frame) + (3 + i)) n (reg c.regs (register_of_variable i)) (λ j. c.regs (20 + i + j)) c first.0 rest.0 first.1
               (params_moved n i c first.0 rest.0 first.1 few (subst (λ m. Filled m n (λ j. first.0.regs (20 + suc i + j)) first.0 rest.0) place rest.1)) (sym value)),
-          compose.later w (3 + 3 * n) (3 * suc n) _ _ (omega arith) (compose.joined w 3 (3 * n) _ _ _ (compose.later w (place_steps (frame_slot sc (3 + i))) 3 _ _ (few_steps (frame_slot sc (3 + i))) first.2) (subst (λ m. Reaches w (3 * n) (at_with (k + length (access_code (λ y x. Sw (register_of i) y x) 1 (frame_slot sc (3 + i)))) first.0 d) (at_with m rest.0 d)) len rest.2)),
+          compose.later w (3 + 3 * n) (3 * suc n) _ _ (omega arith) (compose.joined w 3 (3 * n) _ _ _ (compose.later w (place_steps (frame_slot sc (3 + i))) 3 _ _ (few_steps (frame_slot sc (3 + i))) first.2) (subst (λ m. Reaches w (3 * n) (at_with (k + length (access_code (λ y x. Sw (register_of_variable i) y x) 1 (frame_slot sc (3 + i)))) first.0 d) (at_with m rest.0 d)) len rest.2)),
         )
       where
-        params_moved : (n i : ℕ) (c b r : Contents) → Wrote compose w straight 1 ((e - sc.frame) + (3 + i)) (reg c.regs (register_of i)) c b → i + suc n ≤ 8 → Filled ((e - sc.frame) + (3 + i) + 1) n (λ j. b.regs (20 + suc i + j)) b r → Filled ((e - sc.frame) + (3 + i) + 1) n (λ j. c.regs (20 + i + suc j)) b r
+        params_moved : (n i : ℕ) (c b r : Contents) → Wrote compose w straight 1 ((e - sc.frame) + (3 + i)) (reg c.regs (register_of_variable i)) c b → i + suc n ≤ 8 → Filled ((e - sc.frame) + (3 + i) + 1) n (λ j. b.regs (20 + suc i + j)) b r → Filled ((e - sc.frame) + (3 + i) + 1) n (λ j. c.regs (20 + i + suc j)) b r
         params_moved n i c b r wrote few h = record {
           words = λ j lt. h.words j lt ∙ wrote.others (20 + suc i + j) (λ z. absurd (omega (arith, z))) (λ z. absurd (omega (arith, z))) ∙ ap c.regs (omega arith);
           others = h.others;
@@ -187,19 +221,40 @@ module _ (compose : RunsCompose) (w : World) (sound : Sound w) (straight : Strai
           regs = h.regs;
         }
 
-    -- the locals' words become 0, a store each
-    pub zeros_run : (n i k : ℕ) (c : Contents) (d : Behind) → d.pending ≡ Idle → i + n ≤ sc.frame → c.regs 29 ≡ 4 * e → CodeAt w k (zeros_code sc n i)
-        → (c' : Contents) × Filled ((e - sc.frame) + i) n (λ j. 0) c c' × Reaches w (3 * n) (at_with k c d) (at_with (k + length (zeros_code sc n i)) c' d)
-    zeros_run zero i k c d idle room at code = (c, filled_none ((e - sc.frame) + i) (λ j. 0) c, subst (λ m. Reaches w 0 (at_with k c d) (at_with m c d)) (omega arith) (compose.none w (at_with k c d)))
-    zeros_run (suc n) i k c d idle room at code =
-        let first = to_frame 0 i k c d idle (λ z. absurd (omega (arith, z))) (omega (arith, room)) at (front w k (access_code (λ y x. Sw 0 y x) 1 (frame_slot sc i)) (zeros_code sc n (suc i)) code) in
-        let kept : first.0.regs 29 ≡ 4 * e = first.1.others 29 (λ z. absurd (omega (arith, z))) (λ z. absurd (omega (arith, z))) ∙ at in
-        let rest = zeros_run n (suc i) (k + length (access_code (λ y x. Sw 0 y x) 1 (frame_slot sc i))) first.0 d idle (omega (arith, room)) kept (back w k (access_code (λ y x. Sw 0 y x) 1 (frame_slot sc i)) (zeros_code sc n (suc i)) code) in
-        let len : k + length (access_code (λ y x. Sw 0 y x) 1 (frame_slot sc i)) + length (zeros_code sc n (suc i)) ≡ k + length (zeros_code sc (suc n) i) = omega (arith, length-append (access_code (λ y x. Sw 0 y x) 1 (frame_slot sc i)) (zeros_code sc n (suc i))) in
-        let place : (e - sc.frame) + suc i ≡ (e - sc.frame) + i + 1 = omega arith in (
+    -- of the locals' words those become 0 that are to be cleared, a store each
+    zero_run : (cleared : ℕ → Bool) (i k : ℕ) (c : Contents) (d : Behind) → d.pending ≡ Idle → 3 + i < sc.frame → c.regs 29 ≡ 4 * e → CodeAt w k (zero_code sc (cleared i) i)
+        → (c' : Contents) × ((IsTrue (cleared i) → c'.memory ((e - sc.frame) + (3 + i)) ≡ 0) × ((x : ℕ) → x ≢ (e - sc.frame) + (3 + i) → c'.memory x ≡ c.memory x) × (c'.special ≡ c.special) × ((x : ℕ) → x ≢ 1 → c'.regs x ≡ c.regs x))
+        × Reaches w 3 (at_with k c d) (at_with (k + length (zero_code sc (cleared i) i)) c' d)
+    zero_run cleared i k c d idle room at code = by_test (cleared i) refl code
+      where
+        by_test : (b : Bool) → cleared i ≡ b → CodeAt w k (zero_code sc b i)
+            → (c' : Contents) × ((IsTrue (cleared i) → c'.memory ((e - sc.frame) + (3 + i)) ≡ 0) × ((x : ℕ) → x ≢ (e - sc.frame) + (3 + i) → c'.memory x ≡ c.memory x) × (c'.special ≡ c.special) × ((x : ℕ) → x ≢ 1 → c'.regs x ≡ c.regs x))
+            × Reaches w 3 (at_with k c d) (at_with (k + length (zero_code sc b i)) c' d)
+        by_test true q there =
+            let r = to_frame 0 (3 + i) k c d idle (λ z. absurd (omega (arith, z))) room at there in (
+              r.0,
+              ((λ wanted. ap (λ m. m ((e - sc.frame) + (3 + i))) r.1.memory ∙ put_same c.memory ((e - sc.frame) + (3 + i)) 0), (λ x ne. ap (λ m. m x) r.1.memory ∙ put_other c.memory ((e - sc.frame) + (3 + i)) 0 x ne), r.1.special, (λ x ne. r.1.others x ne ne)),
+              compose.later w (place_steps (frame_slot sc (3 + i))) 3 _ _ (few_steps (frame_slot sc (3 + i))) r.2,
+            )
+        by_test false q there = (
+          c,
+          ((λ wanted. absurd (let z : false ≡ true = sym q ∙ wanted in cc)), (λ x ne. refl), refl, (λ x ne. refl)),
+          subst (λ m. Reaches w 3 (at_with k c d) (at_with m c d)) (omega arith) (compose.later w 0 3 _ _ (omega arith) (compose.none w (at_with k c d))),
+        )
+
+    pub zeros_run : (cleared : ℕ → Bool) (n i k : ℕ) (c : Contents) (d : Behind) → d.pending ≡ Idle → 3 + i + n ≤ sc.frame → c.regs 29 ≡ 4 * e → CodeAt w k (zeros_code sc cleared n i)
+        → (c' : Contents) × Zeroed ((e - sc.frame) + (3 + i)) n cleared i c c' × Reaches w (3 * n) (at_with k c d) (at_with (k + length (zeros_code sc cleared n i)) c' d)
+    zeros_run cleared zero i k c d idle room at code = (c, zeroed_all ((e - sc.frame) + (3 + i)) 0 cleared i c c (filled_none ((e - sc.frame) + (3 + i)) (λ j. 0) c), subst (λ m. Reaches w 0 (at_with k c d) (at_with m c d)) (omega arith) (compose.none w (at_with k c d)))
+    zeros_run cleared (suc n) i k c d idle room at code =
+        let first = zero_run cleared i k c d idle (omega (arith, room)) at (front w k (zero_code sc (cleared i) i) (zeros_code sc cleared n (suc i)) code) in
+        let kept : first.0.regs 29 ≡ 4 * e = first.1.3 29 (λ z. absurd (omega (arith, z))) ∙ at in
+        let k1 : ℕ = k + length (zero_code sc (cleared i) i) in
+        let rest = zeros_run cleared n (suc i) (k + length (zero_code sc (cleared i) i)) first.0 d idle (omega (arith, room)) kept (back w k (zero_code sc (cleared i) i) (zeros_code sc cleared n (suc i)) code) in
+        let len : k + length (zero_code sc (cleared i) i) + length (zeros_code sc cleared n (suc i)) ≡ k + length (zeros_code sc cleared (suc n) i) = omega (arith, length-append (zero_code sc (cleared i) i) (zeros_code sc cleared n (suc i))) in
+        let place : (e - sc.frame) + (3 + suc i) ≡ (e - sc.frame) + (3 + i) + 1 = omega arith in (
           rest.0,
-          filled_on ((e - sc.frame) + i) n 0 (λ j. 0) c first.0 rest.0 first.1 (subst (λ m. Filled m n (λ j. 0) first.0 rest.0) place rest.1) refl,
-          compose.later w (3 + 3 * n) (3 * suc n) _ _ (omega arith) (compose.joined w 3 (3 * n) _ _ _ (compose.later w (place_steps (frame_slot sc i)) 3 _ _ (few_steps (frame_slot sc i)) first.2) (subst (λ m. Reaches w (3 * n) (at_with (k + length (access_code (λ y x. Sw 0 y x) 1 (frame_slot sc i))) first.0 d) (at_with m rest.0 d)) len rest.2)),
+          zeroed_on ((e - sc.frame) + (3 + i)) n cleared i c first.0 rest.0 first.1.0 first.1.1 first.1.2 first.1.3 (subst (λ m. Zeroed m n cleared (suc i) first.0 rest.0) place rest.1),
+          compose.later w (3 + 3 * n) (3 * suc n) _ _ (omega arith) (compose.joined w 3 (3 * n) _ _ _ first.2 (subst (λ m. Reaches w (3 * n) (at_with (k + length (zero_code sc (cleared i) i)) first.0 d) (at_with m rest.0 d)) len rest.2)),
         )
 
     -- the locals' words become 0, in a loop: a turn for each

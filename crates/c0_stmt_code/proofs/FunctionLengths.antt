@@ -14,9 +14,10 @@ use Rattle.c0_meaning.specs.Limits.{nodes_of, words_held}
 use Rattle.c0_tree.specs.Size.{body_nodes}
 use Rattle.c0_asm_body.specs.Code.{asm_code, arguments_code, instruction_of}
 use Rattle.c0_expr_code.specs.Scope.{Scope}
-use Rattle.c0_expr_code.specs.Code.{frame_back, register_of, constant_code, access_code, value_code}
+use Rattle.c0_expr_code.specs.Code.{frame_back, register_of_variable, constant_code, access_code, value_code}
 use Rattle.c0_expr_code.specs.Test.{test_code}
-use Rattle.c0_stmt_code.specs.Code.{Links, callee_index, answer_code, args_code, otherwise, otherwise_at, turn_code, stmt_code, stmts_code, are_calling, frame_slot, end_code, large_code, stack_test, save_code, restore_code, params_code, zeros_code, zeros_loop, locals_code, clear_code, frame_entry, frame_return, register_entry, register_return, entry_code, exit_code, return_code, body_code as code_of_body}
+use Rattle.c0_stmt_code.specs.Live.{is_cleared}
+use Rattle.c0_stmt_code.specs.Code.{Links, callee_index, answer_code, args_code, otherwise, otherwise_at, turn_code, stmt_code, stmts_code, are_calling, frame_slot, end_code, large_code, stack_test, save_code, restore_code, params_code, zeros_code, zeros_loop, locals_code, clear_code, frame_entry, frame_return, register_entry, register_return, entry_code, exit_code, return_code, body_code as code_of_body, zero_code, clear_one}
 use Rattle.c0_stmt_code.proofs.Premises.{LengthsFit}
 use Rattle.c0_stmt_code.proofs.Lengths.{access_length, stmts_length}
 
@@ -66,9 +67,9 @@ module _ (sc : Scope) (x y : Links) where
       omega (
         arith,
         e,
-        length-append (entry_code sc params locals (are_calling stmts)) (stmts_code sc x stmts ++ return_code sc (are_calling stmts) answer),
+        length-append (entry_code sc (is_cleared locals stmts answer) params locals (are_calling stmts)) (stmts_code sc x stmts ++ return_code sc (are_calling stmts) answer),
         length-append (stmts_code sc x stmts) (return_code sc (are_calling stmts) answer),
-        length-append (entry_code sc params locals (are_calling stmts)) (stmts_code sc y stmts ++ return_code sc (are_calling stmts) answer),
+        length-append (entry_code sc (is_cleared locals stmts answer) params locals (are_calling stmts)) (stmts_code sc y stmts ++ return_code sc (are_calling stmts) answer),
         length-append (stmts_code sc y stmts) (return_code sc (are_calling stmts) answer),
       )
   body_same params (asm text span words) = refl
@@ -106,66 +107,77 @@ module _ (sc : Scope) (x : Links) (fit : LengthsFit sc) where
   params_length : (n i : ℕ) → length (params_code sc n i) ≤ 3 * n
   params_length zero i = omega arith
   params_length (suc n) i =
-      let a = framed (λ b k. Sw (register_of i) b k) 1 (3 + i) in
+      let a = framed (λ b k. Sw (register_of_variable i) b k) 1 (3 + i) in
       let r = params_length n (suc i) in
-      omega (arith, a, r, length-append (access_code (λ b k. Sw (register_of i) b k) 1 (frame_slot sc (3 + i))) (params_code sc n (suc i)))
+      omega (arith, a, r, length-append (access_code (λ b k. Sw (register_of_variable i) b k) 1 (frame_slot sc (3 + i))) (params_code sc n (suc i)))
 
-  zeros_length : (n i : ℕ) → length (zeros_code sc n i) ≤ 3 * n
-  zeros_length zero i = omega arith
-  zeros_length (suc n) i =
-      let a = framed (λ b k. Sw 0 b k) 1 i in
-      let r = zeros_length n (suc i) in
-      omega (arith, a, r, length-append (access_code (λ b k. Sw 0 b k) 1 (frame_slot sc i)) (zeros_code sc n (suc i)))
+  zero_length : (b : Bool) (i : ℕ) → length (zero_code sc b i) ≤ 3
+  zero_length true i = framed (λ b k. Sw 0 b k) 1 (3 + i)
+  zero_length false i = omega arith
+
+  zeros_length : (cleared : ℕ → Bool) (n i : ℕ) → length (zeros_code sc cleared n i) ≤ 3 * n
+  zeros_length cleared zero i = omega arith
+  zeros_length cleared (suc n) i =
+      let a = zero_length (cleared i) i in
+      let r = zeros_length cleared n (suc i) in
+      omega (arith, a, r, length-append (zero_code sc (cleared i) i) (zeros_code sc cleared n (suc i)))
 
   loop_length : (i : ℕ) → length (zeros_loop sc i) ≤ 6
   loop_length i =
-      let a = framed (λ b k. Addiu 2 b k) 2 i in
-      omega (arith, a, length-append (access_code (λ b k. Addiu 2 b k) 2 (frame_slot sc i)) (Sw 0 2 0 ∷ Addiu 2 2 4 ∷ Bne 2 29 65533 ∷ []))
+      let a = framed (λ b k. Addiu 2 b k) 2 (3 + i) in
+      omega (arith, a, length-append (access_code (λ b k. Addiu 2 b k) 2 (frame_slot sc (3 + i))) (Sw 0 2 0 ∷ Addiu 2 2 4 ∷ Bne 2 29 65533 ∷ []))
 
-  locals_length : (n i : ℕ) → length (locals_code sc n i) ≤ 24
-  locals_length n i = elim (cases_Bool (nat_le n 8)) [
-    | inl e ↦ let same = ap (λ (is : List Inst). length is) (cond-true (nat_le n 8) (zeros_code sc n i) (zeros_loop sc i) e) in let z = zeros_length n i in let few : n ≤ 8 = leb-true n 8 e in omega (arith, same, z, few)
-    | inr e ↦ let same = ap (λ (is : List Inst). length is) (cond-false (nat_le n 8) (zeros_code sc n i) (zeros_loop sc i) e) in let z = loop_length i in omega (arith, same, z)
+  locals_length : (cleared : ℕ → Bool) (n i : ℕ) → length (locals_code sc cleared n i) ≤ 24
+  locals_length cleared n i = elim (cases_Bool (nat_le n 8)) [
+    | inl e ↦ let same = ap (λ (is : List Inst). length is) (cond-true (nat_le n 8) (zeros_code sc cleared n i) (zeros_loop sc i) e) in let z = zeros_length cleared n i in let few : n ≤ 8 = leb-true n 8 e in omega (arith, same, z, few)
+    | inr e ↦ let same = ap (λ (is : List Inst). length is) (cond-false (nat_le n 8) (zeros_code sc cleared n i) (zeros_loop sc i) e) in let z = loop_length i in omega (arith, same, z)
   ]
 
-  clear_length : (n i : ℕ) → length (clear_code n i) ≡ n
-  clear_length zero i = refl
-  clear_length (suc n) i = let r = clear_length n (suc i) in omega (arith, r)
+  one_length : (b : Bool) (i : ℕ) → length (clear_one b i) ≤ 1
+  one_length true i = omega arith
+  one_length false i = omega arith
 
-  frame_entry_length : (params words : ℕ) (b : Bool) → length (frame_entry sc params words b) ≤ 34 + 3 * params
-  frame_entry_length params words b =
+  clear_length : (cleared : ℕ → Bool) (n i : ℕ) → length (clear_code cleared n i) ≤ n
+  clear_length cleared zero i = omega arith
+  clear_length cleared (suc n) i =
+      let a = one_length (cleared i) i in
+      let r = clear_length cleared n (suc i) in
+      omega (arith, a, r, length-append (clear_one (cleared i) i) (clear_code cleared n (suc i)))
+
+  frame_entry_length : (cleared : ℕ → Bool) (params words : ℕ) (b : Bool) → length (frame_entry sc cleared params words b) ≤ 34 + 3 * params
+  frame_entry_length cleared params words b =
       let t = test_length 29 in
       let s = save_length b in
       let p = params_length params 0 in
-      let l = locals_length words (3 + params) in
+      let l = locals_length cleared words params in
       omega (
         arith,
         t,
         s,
         p,
         l,
-        length-append (stack_test sc 29) (save_code sc b ++ (params_code sc params 0 ++ locals_code sc words (3 + params))),
-        length-append (save_code sc b) (params_code sc params 0 ++ locals_code sc words (3 + params)),
-        length-append (params_code sc params 0) (locals_code sc words (3 + params)),
+        length-append (stack_test sc 29) (save_code sc b ++ (params_code sc params 0 ++ locals_code sc cleared words params)),
+        length-append (save_code sc b) (params_code sc params 0 ++ locals_code sc cleared words params),
+        length-append (params_code sc params 0) (locals_code sc cleared words params),
       )
 
-  register_entry_length : (params locals : ℕ) (b : Bool) → length (register_entry sc params locals b) ≤ 8 + locals
-  register_entry_length params locals true =
+  register_entry_length : (cleared : ℕ → Bool) (params locals : ℕ) (b : Bool) → length (register_entry sc cleared params locals b) ≤ 8 + locals
+  register_entry_length cleared params locals true =
       let t = test_length 1 in
-      let c = clear_length locals params in
-      omega (arith, t, c, length-append (stack_test sc 1) ((Sw 31 29 0 ∷ []) ++ clear_code locals params), length-append (Sw 31 29 0 ∷ []) (clear_code locals params))
-  register_entry_length params locals false =
+      let c = clear_length cleared locals params in
+      omega (arith, t, c, length-append (stack_test sc 1) ((Sw 31 29 0 ∷ []) ++ clear_code cleared locals params), length-append (Sw 31 29 0 ∷ []) (clear_code cleared locals params))
+  register_entry_length cleared params locals false =
       let t = test_length 1 in
-      let c = clear_length locals params in
-      omega (arith, t, c, length-append (stack_test sc 1) ([] ++ clear_code locals params))
+      let c = clear_length cleared locals params in
+      omega (arith, t, c, length-append (stack_test sc 1) ([] ++ clear_code cleared locals params))
 
-  entry_length : (params : ℕ) (locals : List CDecl) (b : Bool) → length (entry_code sc params locals b) ≤ 34 + 3 * params + length locals
-  entry_length params locals b =
+  entry_length : (cleared : ℕ → Bool) (params : ℕ) (locals : List CDecl) (b : Bool) → length (entry_code sc cleared params locals b) ≤ 34 + 3 * params + length locals
+  entry_length cleared params locals b =
       by_form sc.in_registers
     where
-      by_form : (c : Bool) → length (if c then register_entry sc params (length locals) b else frame_entry sc params (all_words sc.env.structs (map typed_of locals)) b) ≤ 34 + 3 * params + length locals
-      by_form true = let r = register_entry_length params (length locals) b in omega (arith, r)
-      by_form false = let r = frame_entry_length params (all_words sc.env.structs (map typed_of locals)) b in omega (arith, r)
+      by_form : (c : Bool) → length (if c then register_entry sc cleared params (length locals) b else frame_entry sc cleared params (all_words sc.env.structs (map typed_of locals)) b) ≤ 34 + 3 * params + length locals
+      by_form true = let r = register_entry_length cleared params (length locals) b in omega (arith, r)
+      by_form false = let r = frame_entry_length cleared params (all_words sc.env.structs (map typed_of locals)) b in omega (arith, r)
 
   register_return_length : (b : Bool) → length (register_return b) ≤ 2
   register_return_length true = omega arith
@@ -187,7 +199,7 @@ module _ (sc : Scope) (x : Links) (fit : LengthsFit sc) where
 
   body_length : (params : ℕ) (b : CBody) → length (code_of_body sc x params b) ≤ 32 * (1 + params + body_nodes (length (words_held b)) b)
   body_length params (code locals stmts answer) =
-      let e = entry_length params locals (are_calling stmts) in
+      let e = entry_length (is_cleared locals stmts answer) params locals (are_calling stmts) in
       let s = stmts_length sc x fit stmts in
       let v = fit.value answer 2 8 in
       let some = fit.value_some answer 2 8 in
@@ -199,7 +211,7 @@ module _ (sc : Scope) (x : Links) (fit : LengthsFit sc) where
         v,
         some,
         r,
-        length-append (entry_code sc params locals (are_calling stmts)) (stmts_code sc x stmts ++ return_code sc (are_calling stmts) answer),
+        length-append (entry_code sc (is_cleared locals stmts answer) params locals (are_calling stmts)) (stmts_code sc x stmts ++ return_code sc (are_calling stmts) answer),
         length-append (stmts_code sc x stmts) (return_code sc (are_calling stmts) answer),
         length-append (value_code sc answer 2 8) (exit_code sc (are_calling stmts)),
       )

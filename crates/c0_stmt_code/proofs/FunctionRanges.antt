@@ -16,13 +16,14 @@ use Rattle.c0_meaning.specs.Env.{typed_of}
 use Rattle.c0_meaning.specs.Words.{words, all_words}
 use Rattle.c0_meaning.specs.Operators.{StackOut}
 use Rattle.c0_meaning.specs.Asm.{are_allowed_words}
-use Rattle.c0_asm_body.specs.Code.{argument_code, arguments_code, asm_code, body_code}
+use Rattle.c0_asm_body.specs.Code.{argument_code, arguments_code, asm_code, asm_body_code}
 use Rattle.c0_asm_body.specs.Laws.{AreEncoded}
 use Rattle.c0_expr_code.specs.Laws.{CodesInRange, HasNearExits}
 use Rattle.c0_expr_code.specs.Scope.{Scope}
-use Rattle.c0_expr_code.specs.Code.{AddressingMode, is_near, low, high, frame_back, register_of, constant_code, access_code, store_code, operand_code, operand_register, made, value_code}
+use Rattle.c0_expr_code.specs.Code.{AddressingMode, is_near, low, high, frame_back, register_of_variable, constant_code, access_code, store_code, operand_code, operand_register, made, value_code}
 use Rattle.c0_expr_code.specs.Test.{test_code}
-use Rattle.c0_stmt_code.specs.Code.{Links, callee_index, skip, stored_code, answer_code, assigned_code, args_code, otherwise, otherwise_at, back, turn_code, stmt_code, stmts_code, are_calling, frame_slot, end_code, large_code, stack_test, save_code, restore_code, params_code, zeros_code, zeros_loop, locals_code, clear_code, frame_entry, frame_return, register_entry, register_return, entry_code, exit_code, return_code, body_code as code_of_body}
+use Rattle.c0_stmt_code.specs.Live.{is_cleared}
+use Rattle.c0_stmt_code.specs.Code.{Links, callee_index, skip, stored_code, answer_code, assigned_code, args_code, otherwise, otherwise_at, back, turn_code, stmt_code, stmts_code, are_calling, frame_slot, end_code, large_code, stack_test, save_code, restore_code, params_code, zeros_code, zeros_loop, locals_code, clear_code, frame_entry, frame_return, register_entry, register_return, entry_code, exit_code, return_code, body_code as code_of_body, zero_code, clear_one}
 use Rattle.c0_stmt_code.specs.Emit.{IsEmittable, AreEmittable, IsEmittableBody}
 use Rattle.c0_stmt_code.specs.EmitLeaf.{CanStand}
 use Rattle.c0_stmt_code.specs.Ranges.{AreNear}
@@ -84,7 +85,7 @@ module _ (sc : Scope) (x : Links) (codes : CodesInRange) (exits : HasNearExits s
   args : (es : List CExpr) (i : ℕ) → EachOf (CanStand sc.env 12) es → Fine (args_code sc es i)
   args [] i h = none
   args (e ∷ es) i h =
-      both (value_code sc e (register_of i) 8) (args_code sc es (suc i)) (codes.value sc exits e (register_of i) 8 (omega arith) (let r = (All-head (CanStand sc.env 12) e es h).room in omega (arith, r))) (args es (suc i) (All-tail (CanStand sc.env 12) e es h))
+      both (value_code sc e (register_of_variable i) 8) (args_code sc es (suc i)) (codes.value sc exits e (register_of_variable i) 8 (omega arith) (let r = (All-head (CanStand sc.env 12) e es h).room in omega (arith, r))) (args es (suc i) (All-tail (CanStand sc.env 12) e es h))
 
   callees : (k : Kind) (n : ℕ) → callee_index x k n < 2 ^ 26
   callees Unresolved n = omega arith
@@ -146,40 +147,44 @@ module _ (sc : Scope) (x : Links) (codes : CodesInRange) (exits : HasNearExits s
   params_stored : (n i : ℕ) → Fine (params_code sc n i)
   params_stored zero i = none
   params_stored (suc n) i =
-      both (access_code (λ b k. Sw (register_of i) b k) 1 (frame_slot sc (3 + i))) (params_code sc n (suc i)) (framed (λ b k. Sw (register_of i) b k) 1 (3 + i) (omega arith) (λ b k l m. (omega arith, l, m))) (params_stored n (suc i))
+      both (access_code (λ b k. Sw (register_of_variable i) b k) 1 (frame_slot sc (3 + i))) (params_code sc n (suc i)) (framed (λ b k. Sw (register_of_variable i) b k) 1 (3 + i) (omega arith) (λ b k l m. (omega arith, l, m))) (params_stored n (suc i))
 
-  zeros_stored : (n i : ℕ) → Fine (zeros_code sc n i)
-  zeros_stored zero i = none
-  zeros_stored (suc n) i = both (access_code (λ b k. Sw 0 b k) 1 (frame_slot sc i)) (zeros_code sc n (suc i)) (framed (λ b k. Sw 0 b k) 1 i (omega arith) (λ b k l m. (omega arith, l, m))) (zeros_stored n (suc i))
+  zero_stored : (b : Bool) (i : ℕ) → Fine (zero_code sc b i)
+  zero_stored b i = either b (access_code (λ b k. Sw 0 b k) 1 (frame_slot sc (3 + i))) [] (framed (λ b k. Sw 0 b k) 1 (3 + i) (omega arith) (λ b k l m. (omega arith, l, m))) none
+
+  zeros_stored : (cleared : ℕ → Bool) (n i : ℕ) → Fine (zeros_code sc cleared n i)
+  zeros_stored cleared zero i = none
+  zeros_stored cleared (suc n) i = both (zero_code sc (cleared i) i) (zeros_code sc cleared n (suc i)) (zero_stored (cleared i) i) (zeros_stored cleared n (suc i))
 
   zeros_looped : (i : ℕ) → Fine (zeros_loop sc i)
   zeros_looped i =
-      both (access_code (λ b k. Addiu 2 b k) 2 (frame_slot sc i)) (Sw 0 2 0 ∷ Addiu 2 2 4 ∷ Bne 2 29 65533 ∷ []) (framed (λ b k. Addiu 2 b k) 2 i (omega arith) (λ b k l m. (omega arith, l, m)))
+      both (access_code (λ b k. Addiu 2 b k) 2 (frame_slot sc (3 + i))) (Sw 0 2 0 ∷ Addiu 2 2 4 ∷ Bne 2 29 65533 ∷ []) (framed (λ b k. Addiu 2 b k) 2 (3 + i) (omega arith) (λ b k l m. (omega arith, l, m)))
       (front (Sw 0 2 0) (Addiu 2 2 4 ∷ Bne 2 29 65533 ∷ []) (omega arith, omega arith, omega arith) (front (Addiu 2 2 4) (Bne 2 29 65533 ∷ []) (omega arith, omega arith, omega arith) (front (Bne 2 29 65533) [] (omega arith, omega arith, omega arith) none)))
 
-  clears : (n i : ℕ) → Fine (clear_code n i)
-  clears zero i = none
-  clears (suc n) i = front (Addu (register_of i) 0 0) (clear_code n (suc i)) (omega arith, omega arith, omega arith) (clears n (suc i))
+  clears : (cleared : ℕ → Bool) (n i : ℕ) → Fine (clear_code cleared n i)
+  clears cleared zero i = none
+  clears cleared (suc n) i = both (clear_one (cleared i) i) (clear_code cleared n (suc i)) (either (cleared i) (Addu (register_of_variable i) 0 0 ∷ []) [] (front (Addu (register_of_variable i) 0 0) [] (omega arith, omega arith, omega arith) none) none) (clears cleared n (suc i))
 
-  frame_begins : (params words : ℕ) (b : Bool) → Fine (frame_entry sc params words b)
-  frame_begins params words b =
-      both (stack_test sc 29) (save_code sc b ++ (params_code sc params 0 ++ locals_code sc words (3 + params))) (tests_stack 29 (omega arith))
-      (both (save_code sc b) (params_code sc params 0 ++ locals_code sc words (3 + params)) (saves b)
-      (both (params_code sc params 0) (locals_code sc words (3 + params)) (params_stored params 0) (either (nat_le words 8) (zeros_code sc words (3 + params)) (zeros_loop sc (3 + params)) (zeros_stored words (3 + params)) (zeros_looped (3 + params)))))
+  frame_begins : (cleared : ℕ → Bool) (params words : ℕ) (b : Bool) → Fine (frame_entry sc cleared params words b)
+  frame_begins cleared params words b =
+      both (stack_test sc 29) (save_code sc b ++ (params_code sc params 0 ++ locals_code sc cleared words params)) (tests_stack 29 (omega arith))
+      (both (save_code sc b) (params_code sc params 0 ++ locals_code sc cleared words params) (saves b)
+      (both (params_code sc params 0) (locals_code sc cleared words params) (params_stored params 0) (either (nat_le words 8) (zeros_code sc cleared words params) (zeros_loop sc params) (zeros_stored cleared words params) (zeros_looped params))))
 
   register_saves : (b : Bool) → Fine (if b then Sw 31 29 0 ∷ [] else [])
   register_saves b = either b (Sw 31 29 0 ∷ []) [] (front (Sw 31 29 0) [] (omega arith, omega arith, omega arith) none) none
 
-  register_begins : (params locals : ℕ) (b : Bool) → Fine (register_entry sc params locals b)
-  register_begins params locals b =
-      both (stack_test sc 1) ((if b then Sw 31 29 0 ∷ [] else []) ++ clear_code locals params) (tests_stack 1 (omega arith)) (both (if b then Sw 31 29 0 ∷ [] else []) (clear_code locals params) (register_saves b) (clears locals params))
+  register_begins : (cleared : ℕ → Bool) (params locals : ℕ) (b : Bool) → Fine (register_entry sc cleared params locals b)
+  register_begins cleared params locals b =
+      both (stack_test sc 1) ((if b then Sw 31 29 0 ∷ [] else []) ++ clear_code cleared locals params) (tests_stack 1 (omega arith)) (both (if b then Sw 31 29 0 ∷ [] else []) (clear_code cleared locals params) (register_saves b) (clears cleared locals params))
 
   returns_by : Fine (Jr 31 ∷ [])
   returns_by = front (Jr 31) [] (omega arith) none
 
-  begins : (params : ℕ) (locals : List CDecl) (b : Bool) → Fine (entry_code sc params locals b)
-  begins params locals b =
-      either sc.in_registers (register_entry sc params (length locals) b) (frame_entry sc params (all_words sc.env.structs (map typed_of locals)) b) (register_begins params (length locals) b) (frame_begins params (all_words sc.env.structs (map typed_of locals)) b)
+  begins : (cleared : ℕ → Bool) (params : ℕ) (locals : List CDecl) (b : Bool) → Fine (entry_code sc cleared params locals b)
+  begins cleared params locals b =
+      either sc.in_registers (register_entry sc cleared params (length locals) b) (frame_entry sc cleared params (all_words sc.env.structs (map typed_of locals)) b)
+      (register_begins cleared params (length locals) b) (frame_begins cleared params (all_words sc.env.structs (map typed_of locals)) b)
 
   leaves : (b : Bool) → Fine (exit_code sc b)
   leaves b =
@@ -207,9 +212,9 @@ module _ (sc : Scope) (x : Links) (codes : CodesInRange) (exits : HasNearExits s
     pub body_fine : (params : ℕ) (b : CBody) → IsEmittableBody sc.env params b → Fine (code_of_body sc x params b)
     body_fine params (code locals stmts ans) h =
         let r = h.1.room in
-        both (entry_code sc params locals (are_calling stmts)) (stmts_code sc x stmts ++ return_code sc (are_calling stmts) ans) (begins params locals (are_calling stmts))
+        both (entry_code sc (is_cleared locals stmts ans) params locals (are_calling stmts)) (stmts_code sc x stmts ++ return_code sc (are_calling stmts) ans) (begins (is_cleared locals stmts ans) params locals (are_calling stmts))
         (both (stmts_code sc x stmts) (return_code sc (are_calling stmts) ans) (statements stmts h.0)
         (both (value_code sc ans 2 8) (exit_code sc (are_calling stmts)) (codes.value sc exits ans 2 8 (omega arith) (omega (arith, r))) (leaves (are_calling stmts))))
     body_fine params (asm text span ws) h =
         both (stack_test sc 1) (asm_code params ws ++ (Jr 31 ∷ [])) (tests_stack 1 (omega arith))
-        (both (asm_code params ws) (Jr 31 ∷ []) (both (arguments_code params) (body_code ws) (arguments_fine params) (encoded ws h.1).range) returns_by)
+        (both (asm_code params ws) (Jr 31 ∷ []) (both (arguments_code params) (asm_body_code ws) (arguments_fine params) (encoded ws h.1).range) returns_by)

@@ -19,14 +19,14 @@ use Rattle.c0_meaning.specs.Value.{Value, int, bool, null, at, group, Values, em
 use Rattle.c0_meaning.specs.State.{Frame}
 use Rattle.c0_meaning.specs.TypedState.{StoreTyping, types_of, LeadsFrom, AllFit, AreParts, variable_types, IsTypedFrame, store_typing}
 use Rattle.c0_expr_code.specs.Scope.{is_leaf}
-use Rattle.c0_expr_code.specs.Bases.{words_of_all, RegionHeld}
+use Rattle.c0_expr_code.specs.Bases.{words_of_all, RegionHeld, LocalsHeld}
 use Rattle.c0_stmt_code.specs.Code.{calls_in}
 use Rattle.c0_stmt_code.specs.Setup.{Setup}
 use Rattle.c0_stmt_code.specs.Ahead.{Activation}
 use Rattle.c0_stmt_code.specs.Standing.{scope, bases, end_of, unit_scope, VariablesHeld, Waiting, FunctionRuns, UnderWay, ConfigurationStands}
 use Rattle.c0_stmt_code.proofs.Premises.{HeldStays, TypedStays}
 use Rattle.c0_stmt_code.proofs.ValuesStay.{region}
-use Rattle.c0_stmt_code.proofs.State.{rest_of, standing_at}
+use Rattle.c0_stmt_code.proofs.FunctionsUnderWay.{rest_of, standing_at}
 use Rattle.c0_stmt_code.proofs.Rooms.{frame_on, words_by_types, waiting_same}
 use Rattle.c0_stmt_code.proofs.Variables.{zero_zero, zeros_held, joined_held, scalars_words}
 use Rattle.c0_stmt_code.proofs.RegisterFrames.{each_scalar}
@@ -93,15 +93,15 @@ module _ (W E : Type 0) (Outer : W → Contents → Behind → Type 0) (z : Setu
       omega (arith, n, w)
 
   -- variables stay while the registers of variables and the frame's words do
-  variables_kept : (c c' : Contents) (f : CFunction) (g : Frame) (fs : List Frame) → slice_get z.p.unit.functions g.function ≡ Some f → ((x : ℕ) → 20 ≤ x → x < 28 → c'.regs x ≡ c.regs x)
-      → ((x : ℕ) → z.a.stack ≤ x → c'.memory x ≡ c.memory x) → VariablesHeld W E Outer z objects c.regs c.memory f (g ∷ fs) → VariablesHeld W E Outer z objects c'.regs c'.memory f (g ∷ fs)
-  variables_kept c c' f g fs is regs memory h = by_form (scope W E Outer z f).in_registers refl h
+  variables_kept : (live : ℕ → Bool) (c c' : Contents) (f : CFunction) (g : Frame) (fs : List Frame) → slice_get z.p.unit.functions g.function ≡ Some f → ((x : ℕ) → 20 ≤ x → x < 28 → c'.regs x ≡ c.regs x)
+      → ((x : ℕ) → z.a.stack ≤ x → c'.memory x ≡ c.memory x) → VariablesHeld W E Outer z objects live c.regs c.memory f (g ∷ fs) → VariablesHeld W E Outer z objects live c'.regs c'.memory f (g ∷ fs)
+  variables_kept live c c' f g fs is regs memory h = by_form (scope W E Outer z f).in_registers refl h
     where
-      by_form : (b : Bool) → (scope W E Outer z f).in_registers ≡ b → RegionHeld (scope W E Outer z f) (bases W E Outer z objects (g ∷ fs)) (if b then c.regs else c.memory) (if b then 20 else (end_of W E Outer z (g ∷ fs) - words_of_frame (shapes z.p.unit) f) + 3) (types_of (scope W E Outer z f).env.locals) g.variables
-          → RegionHeld (scope W E Outer z f) (bases W E Outer z objects (g ∷ fs)) (if b then c'.regs else c'.memory) (if b then 20 else (end_of W E Outer z (g ∷ fs) - words_of_frame (shapes z.p.unit) f) + 3) (types_of (scope W E Outer z f).env.locals) g.variables
-      by_form true form v = let few = few_words f form in held.same (scope W E Outer z f) (bases W E Outer z objects (g ∷ fs)) c.regs c'.regs 20 (types_of (scope W E Outer z f).env.locals) g.variables refl (λ x le lt. regs x le (omega (arith, lt, few))) v
+      by_form : (b : Bool) → (scope W E Outer z f).in_registers ≡ b → LocalsHeld (scope W E Outer z f) (bases W E Outer z objects (g ∷ fs)) live (if b then c.regs else c.memory) (if b then 20 else (end_of W E Outer z (g ∷ fs) - words_of_frame (shapes z.p.unit) f) + 3) (types_of (scope W E Outer z f).env.locals) g.variables
+          → LocalsHeld (scope W E Outer z f) (bases W E Outer z objects (g ∷ fs)) live (if b then c'.regs else c'.memory) (if b then 20 else (end_of W E Outer z (g ∷ fs) - words_of_frame (shapes z.p.unit) f) + 3) (types_of (scope W E Outer z f).env.locals) g.variables
+      by_form true form v = let few = few_words f form in held.same_locals (scope W E Outer z f) (bases W E Outer z objects (g ∷ fs)) live c.regs c'.regs 20 (types_of (scope W E Outer z f).env.locals) g.variables refl (λ x le lt. regs x le (omega (arith, lt, few))) v
       by_form false form v = let on = frame_on z.p.unit g fs f is in
-          held.same (scope W E Outer z f) (bases W E Outer z objects (g ∷ fs)) c.memory c'.memory ((end_of W E Outer z (g ∷ fs) - words_of_frame (shapes z.p.unit) f) + 3) (types_of (scope W E Outer z f).env.locals) g.variables refl (λ x le lt. memory x (omega (arith, on, le))) v
+          held.same_locals (scope W E Outer z f) (bases W E Outer z objects (g ∷ fs)) live c.memory c'.memory ((end_of W E Outer z (g ∷ fs) - words_of_frame (shapes z.p.unit) f) + 3) (types_of (scope W E Outer z f).env.locals) g.variables refl (λ x le lt. memory x (omega (arith, on, le))) v
 
   -- the functions under way stay so under code that calls a routine, where the one that runs keeps its return address in its frame
   pub under_kept : (c c' : Contents) (a : Activation) (others : List Activation) (g : Frame) (fs : List Frame) → calls_in a.function.body ≡ true → ((x : ℕ) → 20 ≤ x → x < 31 → c'.regs x ≡ c.regs x) → ((x : ℕ) → z.a.stack ≤ x → c'.memory x ≡ c.memory x)
@@ -111,7 +111,7 @@ module _ (W E : Type 0) (Outer : W → Contents → Behind → Type 0) (z : Setu
       is = r.is;
       return_at = ap (λ y. if y then c'.memory (end_of W E Outer z fs) else c'.regs 31) its_calls ∙ memory (end_of W E Outer z fs) (omega arith) ∙ sym (ap (λ y. if y then c.memory (end_of W E Outer z fs) else c.regs 31) its_calls) ∙ r.return_at;
       frame_at = regs 29 (omega arith) (omega arith) ∙ r.frame_at;
-      variables = variables_kept c c' a.function g fs r.is (λ x le lt. regs x le (omega (arith, lt))) memory r.variables;
+      variables = variables_kept a.live c c' a.function g fs r.is (λ x le lt. regs x le (omega (arith, lt))) memory r.variables;
     },
     waiting_same W E Outer z held objects c.memory c'.memory others fs (λ x le lt. memory x le) waits,
   )
@@ -127,11 +127,15 @@ module _ (W E : Type 0) (Outer : W → Contents → Behind → Type 0) (z : Setu
     fresh = zero_of (shapes z.p.unit) (ty_of t)
 
     -- the functions under way stand with an object more
-    variables_more : (regs memory : ℕ → ℕ) (f : CFunction) (g : Frame) (fs : List Frame) → slice_get z.p.unit.functions g.function ≡ Some f → IsTypedFrame z.p.unit (store_typing z.p.unit objects) g → VariablesHeld W E Outer z objects regs memory f (g ∷ fs) → VariablesHeld W E Outer z more regs memory f (g ∷ fs)
-    variables_more regs memory f g fs is typed h =
+    variables_more : (live : ℕ → Bool) (regs memory : ℕ → ℕ) (f : CFunction) (g : Frame) (fs : List Frame) → slice_get z.p.unit.functions g.function ≡ Some f → IsTypedFrame z.p.unit (store_typing z.p.unit objects) g → VariablesHeld W E Outer z objects live regs memory f (g ∷ fs) → VariablesHeld W E Outer z more live regs memory f (g ∷ fs)
+    variables_more live regs memory f g fs is typed h =
         let fits = subst (λ q. AreParts (shapes z.p.unit) (store_typing z.p.unit objects) (variable_types q) g.variables) (some_same (sym typed.is ∙ is)) typed.variables in
-        region (shapes z.p.unit) (map typed_of z.p.unit.globals) z.a.globals z.a.heap objects more (part_stays (shapes z.p.unit) objects (ty_of t ∷ [])) (rest_of (scope W E Outer z f)) (rest_of (scope W E Outer z f)) (end_of W E Outer z (g ∷ fs)) (end_of W E Outer z (g ∷ fs))
-        (if (scope W E Outer z f).in_registers then regs else memory) (if (scope W E Outer z f).in_registers then 20 else (end_of W E Outer z (g ∷ fs) - words_of_frame (shapes z.p.unit) f) + 3) (variable_types f) g.variables fits h
+        record {
+          whole = h.whole;
+          held = region (shapes z.p.unit) (map typed_of z.p.unit.globals) z.a.globals z.a.heap objects more (part_stays (shapes z.p.unit) objects (ty_of t ∷ [])) (rest_of (scope W E Outer z f)) (rest_of (scope W E Outer z f)) (end_of W E Outer z (g ∷ fs)) (end_of W E Outer z (g ∷ fs))
+              h.whole (if (scope W E Outer z f).in_registers then 20 else (end_of W E Outer z (g ∷ fs) - words_of_frame (shapes z.p.unit) f) + 3) (variable_types f) g.variables fits h.held;
+          same = h.same;
+        }
       where
         some_same : {x y : CFunction} → Some x ≡ Some y → x ≡ y
         some_same q = cc
@@ -144,7 +148,7 @@ module _ (W E : Type 0) (Outer : W → Contents → Behind → Type 0) (z : Setu
         in_frame = h.0.in_frame;
         calls = h.0.calls;
         return_at = h.0.return_at;
-        variables = variables_more memory memory a.function g fs h.0.is (All-head (IsTypedFrame z.p.unit (store_typing z.p.unit objects)) g fs all) h.0.variables;
+        variables = variables_more a.live memory memory a.function g fs h.0.is (All-head (IsTypedFrame z.p.unit (store_typing z.p.unit objects)) g fs all) h.0.variables;
       },
       waiting_more memory acts fs (All-tail (IsTypedFrame z.p.unit (store_typing z.p.unit objects)) g fs all) h.1,
     )
@@ -157,7 +161,7 @@ module _ (W E : Type 0) (Outer : W → Contents → Behind → Type 0) (z : Setu
         is = h.0.is;
         return_at = h.0.return_at;
         frame_at = h.0.frame_at;
-        variables = variables_more c.regs c.memory a.function g fs h.0.is (All-head (IsTypedFrame z.p.unit (store_typing z.p.unit objects)) g fs all) h.0.variables;
+        variables = variables_more a.live c.regs c.memory a.function g fs h.0.is (All-head (IsTypedFrame z.p.unit (store_typing z.p.unit objects)) g fs all) h.0.variables;
       },
       waiting_more c.memory others fs (All-tail (IsTypedFrame z.p.unit (store_typing z.p.unit objects)) g fs all) h.1,
     )

@@ -9,7 +9,7 @@ use Rattle.c0_tree.specs.Tree.{CExpr, CStmt, assign, call, new, choice, loop, CS
 use Rattle.c0_meaning.specs.Ty.{ty_of}
 use Rattle.c0_meaning.specs.Words.{words}
 use Rattle.c0_expr_code.specs.Scope.{Scope}
-use Rattle.c0_expr_code.specs.Code.{AddressingMode, is_near, low, high, access_code, constant_code, operand_code, operand_register, made, value_code, register_of}
+use Rattle.c0_expr_code.specs.Code.{AddressingMode, is_near, low, high, access_code, constant_code, operand_code, operand_register, made, value_code, register_of_variable}
 use Rattle.c0_expr_code.specs.Test.{test_code}
 use Rattle.c0_stmt_code.specs.Code.{Links, callee_index, answer_code, stored_code, assigned_code, args_code, otherwise, otherwise_at, back, turn_code, stmt_code, stmts_code}
 use Rattle.c0_stmt_code.proofs.Premises.{LengthsFit}
@@ -48,9 +48,9 @@ module _ (sc : Scope) (x : Links) (fit : LengthsFit sc) where
   pub args_length : (es : List CExpr) (i : ℕ) → length (args_code sc es i) ≤ 14 * args_nodes es
   args_length [] i = omega arith
   args_length (e ∷ es) i =
-      let n = fit.value e (register_of i) 8 in
+      let n = fit.value e (register_of_variable i) 8 in
       let m = args_length es (suc i) in
-      omega (arith, n, m, length-append (value_code sc e (register_of i) 8) (args_code sc es (suc i)))
+      omega (arith, n, m, length-append (value_code sc e (register_of_variable i) 8) (args_code sc es (suc i)))
 
   otherwise_length : (b : CStmts) (code : List Inst) → length (otherwise b code) ≤ 1 + length code
   otherwise_length done code = omega arith

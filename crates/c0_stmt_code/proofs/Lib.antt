@@ -1,6 +1,7 @@
 pub mod Args
 pub mod Asms
 pub mod Blocks
+mod Liveness
 pub mod CallActs
 pub mod Calls
 pub mod Costs
@@ -8,7 +9,7 @@ pub mod EmitLeaf
 pub mod Emittable
 pub mod Emitting
 pub mod Entry
-pub mod Finishes
+pub mod AnswersToRegisters
 pub mod Frames
 pub mod FunctionLengths
 pub mod LowerLaws
@@ -17,20 +18,21 @@ pub mod HeapGrows
 pub mod ValuesStay
 pub mod Lengths
 pub mod RegisterFrames
+mod FirstLive
 pub mod Locals
 pub mod FunctionAt
 pub mod Premises
 pub mod Objects
-pub mod Places
+pub mod ValuesToPlaces
 pub mod Primitives
 pub mod FunctionRanges
 pub mod Returns
 pub mod Rooms
 pub mod StepSimulation
 pub mod MemoryAccess
-pub mod State
+pub mod FunctionsUnderWay
 pub mod Statements
-pub mod Steps
+pub mod EachStep
 pub mod Stores
 pub mod Variables
 pub mod RunStretches

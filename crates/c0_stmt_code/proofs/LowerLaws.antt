@@ -18,7 +18,7 @@ use Rattle.c0_meaning.specs.Value.{Region, globals, heap, locals, Location, Valu
 use Rattle.c0_meaning.specs.State.{Frame, C0State, write}
 use Rattle.c0_meaning.specs.TypedState.{types_of, PathLeads, LeadsFrom, Fits, AllFit, AreParts, variable_types, IsTypedFrame, store_typing, IsTypedWith}
 use Rattle.c0_expr_code.specs.Scope.{Scope}
-use Rattle.c0_expr_code.specs.Bases.{Bases, words_of_all, word, RegionHeld}
+use Rattle.c0_expr_code.specs.Bases.{Bases, words_of_all, word_of_scalar, RegionHeld}
 use Rattle.c0_expr_code.specs.Laws as below
 use Rattle.c0_stmt_code.proofs.Premises.{HeldStays, TypedStays, LengthsFit, types_for}
 
@@ -73,11 +73,14 @@ module _ (structs : List Shape) (opened : below.IsOpened structs) where
   held_stays h = record {
     same = λ sc p m m' a types v e same held. h.same sc p (subst below.IsOpened (sym e) opened) m m' a types v (λ k le lt. same k le (subst (λ q. k < a + words_of_all q types) e lt)) held;
     stored = λ sc p m m' a types path t v x e l s held here others. by_structs h sc p m m' a types path t v x e l s held here others;
+    same_locals = λ sc p live m m' a types v e same held. h.same_locals sc p (subst below.IsOpened (sym e) opened) live m m' a types v (λ k le lt. same k le (subst (λ q. k < a + words_of_all q types) e lt)) held;
+    stored_local = λ sc p live later m m' a types path t v x e l s held here others grows.
+        h.written_local sc p (subst below.IsOpened (sym e) opened) live later m m' a (a + words_to_part structs types path) types path t v x (subst (λ q. LeadsFrom q types path t) (sym e) l) s (ap (λ q. a + words_to_part q types path) (sym e)) here others grows held;
     inside = λ types path t l s. let r = room_from types path t l in let w = one_word t s in omega (arith, r, w);
   }
     where
       by_structs : below.HeldStays → (sc : Scope) (p : Bases) (m m' : ℕ → ℕ) (a : ℕ) (types : List Ty) (path : List ℕ) (t : Ty) (v x : Value) → sc.env.structs ≡ structs → LeadsFrom structs types path t → IsTrue (is_scalar t) → RegionHeld sc p m a types v
-          → m' (a + words_to_part structs types path) ≡ word sc p x → ((y : ℕ) → y ≢ a + words_to_part structs types path → m' y ≡ m y) → RegionHeld sc p m' a types (value_with v path x)
+          → m' (a + words_to_part structs types path) ≡ word_of_scalar sc p x → ((y : ℕ) → y ≢ a + words_to_part structs types path → m' y ≡ m y) → RegionHeld sc p m' a types (value_with v path x)
       by_structs h sc p m m' a types path t v x e l s held here others =
           h.written sc p (subst below.IsOpened (sym e) opened) m m' a (a + words_to_part structs types path) types path t v x (subst (λ q. LeadsFrom q types path t) (sym e) l) s (ap (λ q. a + words_to_part q types path) (sym e)) here others held
 

@@ -29,16 +29,17 @@ use Rattle.c0_expr_code.specs.Bases.{words_of_all}
 use Rattle.c0_runtime.specs.Laws.{RoutineCalled, HeapIs, IsAsked, NewRuns}
 use Rattle.c0_stmt_code.specs.Code.{calls_in, new_code, answer_code}
 use Rattle.c0_stmt_code.specs.Setup.{Setup}
-use Rattle.c0_stmt_code.specs.Ahead.{Activation, env_in, Block, Awaits, Ahead}
+use Rattle.c0_stmt_code.specs.Ahead.{Activation, body_env, Block, Awaits, Ahead}
 use Rattle.c0_stmt_code.specs.Standing.{text, scope, word_of_value, Waiting, FunctionRuns, ConfigurationStands}
 use Rattle.c0_stmt_code.proofs.Premises.{HeldStays, TypedStays}
 use Rattle.c0_stmt_code.proofs.RunStretches.{Way, on, of, away}
 use Rattle.c0_stmt_code.proofs.Blocks.{front, back}
-use Rattle.c0_stmt_code.proofs.State.{standing_at, Exprs}
+use Rattle.c0_stmt_code.proofs.FunctionsUnderWay.{standing_at, Exprs}
 use Rattle.c0_stmt_code.proofs.MemoryAccess.{other_reg, same_reg, read_is}
-use Rattle.c0_stmt_code.proofs.Places.{its_exprs, its_ready}
+use Rattle.c0_stmt_code.proofs.ValuesToPlaces.{its_exprs, its_ready}
 use Rattle.c0_stmt_code.proofs.CallActs.{stands_soft, calls_to}
 use Rattle.c0_stmt_code.proofs.HeapGrows.{last_there, last_behind, parts_count, under_kept, under_more, stands_more}
+use Rattle.c0_stmt_code.proofs.Liveness.{AreLiveAtPlace}
 use Rattle.c0_stmt_code.proofs.StepSimulation.{GoesOn}
 
 module _ (runs : RunLaws) (compose : RunsCompose) (W E : Type 0) (Outer : W → Contents → Behind → Type 0) (z : Setup W E Outer) (jumps : JumpsLead z.w) (straight : StraightRuns z.w)
@@ -78,7 +79,7 @@ module _ (runs : RunLaws) (compose : RunsCompose) (W E : Type 0) (Outer : W → 
       let small = declarable.small in
       let ex = its_exprs runs compose W E Outer z jumps straight held typing exprs objects gv hv hw g fs world calls answer c d a others st r waits in
       let rd = its_ready runs compose W E Outer z jumps straight held typing exprs objects gv hv hw g fs world calls answer c d a others st r waits in
-      let run = ex.value (num s (size % 2 ^ 32)) ty.int (a_value (a_number (omega (arith, small)))) refl (omega arith) 2 8 k c d st.idle rd (front z.w k first_part (Jal (text W E Outer z).links.new_object ∷ answer_code sc p) code) (omega arith) (omega arith) (λ q. absurd (omega (arith, q))) (λ q. absurd (omega (arith, q))) in
+      let run = ex.value (num s (size % 2 ^ 32)) ty.int (a_value (a_number (omega (arith, small)))) refl (omega arith) (λ m q. absurd (cc)) 2 8 k c d st.idle rd (front z.w k first_part (Jal (text W E Outer z).links.new_object ∷ answer_code sc p) code) (omega arith) (omega arith) (λ q. absurd (omega (arith, q))) (λ q. absurd (omega (arith, q))) in
       let c1 : Contents = run.0 in
       let gives = run.1 in
       let keeps = gives.keeps in
@@ -122,8 +123,8 @@ module _ (runs : RunLaws) (compose : RunsCompose) (W E : Type 0) (Outer : W → 
 
   -- there is no room
   refuses : (s : Span) (p : CExpr) (rest : CStmts) (work : List Work) → z.p.heap < hw + size → CodeAt z.w k (new_code sc (text W E Outer z).links size p)
-      → Awaits (text W E Outer z) (a ∷ others) (from + 1) debt (ty.pointer (ty_of t)) (into p rest) work (λ acts to left. Ahead (text W E Outer z) acts to left work) → GoesOn W E Outer z debt here (at_with k c d) (Go (units 1) (finish p null rest ∷ work) here)
-  refuses s p rest work over code ahead =
+      → Awaits (text W E Outer z) (a ∷ others) (from + 1) debt (ty.pointer (ty_of t)) (into p rest) work (λ acts to left. Ahead (text W E Outer z) acts to left work) → AreLiveAtPlace a.live others p rest work → GoesOn W E Outer z debt here (at_with k c d) (Go (units 1) (finish p null rest ∷ work) here)
+  refuses s p rest work over code ahead live =
       let one = asks s p code in
       let two = new_runs.refuses (text W E Outer z).links.new_object (from + 1) hw z.p.heap z.a.heap size one.0 d z.new_object (called one.0 one.1) (heap_is one.0 one.1) (is_asked one.0 one.1) over in
       let keeps = two.1.keeps in
@@ -144,6 +145,7 @@ module _ (runs : RunLaws) (compose : RunsCompose) (W E : Type 0) (Outer : W → 
           fits = tt;
           answer = two.1.answer;
           ahead = ahead;
+          live = live;
         },
       )
 
@@ -170,8 +172,8 @@ module _ (runs : RunLaws) (compose : RunsCompose) (W E : Type 0) (Outer : W → 
       omega (arith, before)
 
   makes : (s : Span) (p : CExpr) (rest : CStmts) (work : List Work) → hw + size ≤ z.p.heap → CodeAt z.w k (new_code sc (text W E Outer z).links size p)
-      → Awaits (text W E Outer z) (a ∷ others) (from + 1) debt (ty.pointer (ty_of t)) (into p rest) work (λ acts to left. Ahead (text W E Outer z) acts to left work) → GoesOn W E Outer z debt here (at_with k c d) (Go (units (1 + size)) (finish p new_one rest ∷ work) made_here)
-  makes s p rest work room code ahead =
+      → Awaits (text W E Outer z) (a ∷ others) (from + 1) debt (ty.pointer (ty_of t)) (into p rest) work (λ acts to left. Ahead (text W E Outer z) acts to left work) → AreLiveAtPlace a.live others p rest work → GoesOn W E Outer z debt here (at_with k c d) (Go (units (1 + size)) (finish p new_one rest ∷ work) made_here)
+  makes s p rest work room code ahead live =
       let one = asks s p code in
       let two = new_runs.makes (text W E Outer z).links.new_object (from + 1) hw z.p.heap z.a.heap size one.0 d z.new_object (called one.0 one.1) (heap_is one.0 one.1) (is_asked one.0 one.1) room in
       let keeps = two.1.keeps in
@@ -199,15 +201,16 @@ module _ (runs : RunLaws) (compose : RunsCompose) (W E : Type 0) (Outer : W → 
           fits = leads_there;
           answer = two.1.answer ∙ sym word_is;
           ahead = ahead;
+          live = live;
         },
       )
 
   -- the statement
-  pub makes_object : (s : Span) (p : CExpr) (rest : CStmts) (work : List Work) → IsNumberedLeft (env_in (text W E Outer z) a.function) p (ty.pointer (ty_of t)) → new_need p ≤ MAX_NEED → nodes p ≤ 2000 → CodeAt z.w k (new_code sc (text W E Outer z).links size p)
-      → Block (text W E Outer z) a.function (k + length (new_code sc (text W E Outer z).links size p)) debt rest (λ to left. Ahead (text W E Outer z) (a ∷ others) to left work) → GoesOn W E Outer z debt here (at_with k c d) (allocate z.p (ty_of t) (into p rest) work here)
-  makes_object s p rest work left shallow few code block = elim (cases_Bool (nat_lt z.p.heap (hw + size))) [
-    | inl over ↦ subst (λ q. GoesOn W E Outer z debt here (at_with k c d) q) (sym (cond-true (nat_lt z.p.heap (hw + size)) refused granted over)) (refuses s p rest work (ltb-true z.p.heap (hw + size) over) code ahead)
-    | inr fine ↦ subst (λ q. GoesOn W E Outer z debt here (at_with k c d) q) (sym (cond-false (nat_lt z.p.heap (hw + size)) refused granted fine)) (makes s p rest work (ltb-false z.p.heap (hw + size) fine) code ahead)
+  pub makes_object : (s : Span) (p : CExpr) (rest : CStmts) (work : List Work) → IsNumberedLeft (body_env (text W E Outer z) a.function) p (ty.pointer (ty_of t)) → new_need p ≤ MAX_NEED → nodes p ≤ 2000 → CodeAt z.w k (new_code sc (text W E Outer z).links size p)
+      → Block (text W E Outer z) a.function (k + length (new_code sc (text W E Outer z).links size p)) debt rest (λ to left. Ahead (text W E Outer z) (a ∷ others) to left work) → AreLiveAtPlace a.live others p rest work → GoesOn W E Outer z debt here (at_with k c d) (allocate z.p (ty_of t) (into p rest) work here)
+  makes_object s p rest work left shallow few code block live = elim (cases_Bool (nat_lt z.p.heap (hw + size))) [
+    | inl over ↦ subst (λ q. GoesOn W E Outer z debt here (at_with k c d) q) (sym (cond-true (nat_lt z.p.heap (hw + size)) refused granted over)) (refuses s p rest work (ltb-true z.p.heap (hw + size) over) code ahead live)
+    | inr fine ↦ subst (λ q. GoesOn W E Outer z debt here (at_with k c d) q) (sym (cond-false (nat_lt z.p.heap (hw + size)) refused granted fine)) (makes s p rest work (ltb-false z.p.heap (hw + size) fine) code ahead live)
   ]
     where
       refused : Step W E

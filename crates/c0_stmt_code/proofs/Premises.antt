@@ -1,5 +1,5 @@
 -- What the proofs of this crate take from the crates below, as premises.
-use Rattle.std.proofs.Common.{◌≡◌, ◌≢◌, ℕ, ◌+◌, ◌*◌, ◌<◌, ◌≤◌, Bool, List, [], ◌∷◌, ◌++◌, length}
+use Rattle.std.proofs.Common.{◌≡◌, ◌≢◌, ◌⊎◌, ℕ, ◌+◌, ◌*◌, ◌<◌, ◌≤◌, Bool, List, [], ◌∷◌, ◌++◌, length}
 use Rattle.mips_table.specs.Code.{World}
 use Rattle.c0_tree.specs.Primitives.{CPrimitive}
 use Rattle.c0_tree.specs.Size.{need, nodes, stmts_nodes}
@@ -22,21 +22,27 @@ use Rattle.std.specs.Prelude.{None, Some, IsTrue, map, slice_get}
 use Rattle.c0_expr_code.specs.Scope.{Scope}
 use Rattle.c0_expr_code.specs.Code.{operand_code, made, value_code}
 use Rattle.c0_expr_code.specs.Test.{test_code}
-use Rattle.c0_expr_code.specs.Bases.{Bases, words_of_all, word, RegionHeld}
+use Rattle.c0_expr_code.specs.Bases.{Bases, words_of_all, word_of_scalar, RegionHeld, LocalsHeld}
+use Rattle.c0_expr_code.specs.Reads.{reads, reads_to_find, Covers}
 use Rattle.c0_expr_code.specs.Relation.{ValueRuns, OperandRuns, PlaceRuns, TestRuns}
 
--- the code of a function's expressions does what they mean, in a state that stands in the machine
-pub record ExpressionsDo (w : World) (env : Env) (sc : Scope) (p : Bases) (s : C0State) : Type 0 where
-  pub value : (e : CExpr) (t : Ty) → IsNumberedGiven env e t → IsTrue (is_scalar t) → nodes e ≤ 2000 → ValueRuns w sc p s (made sc e) (need e) t (value_of e s)
-  pub operand : (e : CExpr) (t : Ty) → IsNumberedGiven env e t → IsTrue (is_scalar t) → nodes e ≤ 2000 → OperandRuns w sc p s (made sc e) (need e) t (value_of e s)
-  pub place : (e : CExpr) (t : Ty) → IsNumberedLeft env e t → nodes e ≤ 2000 → (made sc e).stands ≡ None → PlaceRuns w sc p s (made sc e) (need e) (is_frame_place e) t (place_of e s)
-  pub test : (e : CExpr) → IsNumberedGiven env e bool → nodes e ≤ 2000 → TestRuns w sc p s e
+-- the code of a function's expressions does what they mean, in a state that stands in the machine, where the variables that they read are live
+pub record ExpressionsDo (w : World) (env : Env) (sc : Scope) (p : Bases) (live : ℕ → Bool) (s : C0State) : Type 0 where
+  pub value : (e : CExpr) (t : Ty) → IsNumberedGiven env e t → IsTrue (is_scalar t) → nodes e ≤ 2000 → Covers live (reads e) → ValueRuns w sc p live s (made sc e) (need e) t (value_of e s)
+  pub operand : (e : CExpr) (t : Ty) → IsNumberedGiven env e t → IsTrue (is_scalar t) → nodes e ≤ 2000 → Covers live (reads e) → OperandRuns w sc p live s (made sc e) (need e) t (value_of e s)
+  pub place : (e : CExpr) (t : Ty) → IsNumberedLeft env e t → nodes e ≤ 2000 → (made sc e).stands ≡ None → Covers live (reads_to_find e) → PlaceRuns w sc p live s (made sc e) (need e) (is_frame_place e) t (place_of e s)
+  pub test : (e : CExpr) → IsNumberedGiven env e bool → nodes e ≤ 2000 → Covers live (reads e) → TestRuns w sc p live s e
 
 -- what stands in words stays while these stay, and a scalar that is stored in its word stands there
 pub record HeldStays (structs : List Shape) : Type 0 where
   pub same : (sc : Scope) (p : Bases) (m m' : ℕ → ℕ) (a : ℕ) (types : List Ty) (v : Value) → sc.env.structs ≡ structs → ((x : ℕ) → a ≤ x → x < a + words_of_all structs types → m' x ≡ m x) → RegionHeld sc p m a types v → RegionHeld sc p m' a types v
   pub stored : (sc : Scope) (p : Bases) (m m' : ℕ → ℕ) (a : ℕ) (types : List Ty) (path : List ℕ) (t : Ty) (v x : Value) → sc.env.structs ≡ structs → LeadsFrom structs types path t → IsTrue (is_scalar t) → RegionHeld sc p m a types v
-      → m' (a + words_to_part structs types path) ≡ word sc p x → ((y : ℕ) → y ≢ a + words_to_part structs types path → m' y ≡ m y) → RegionHeld sc p m' a types (value_with v path x)
+      → m' (a + words_to_part structs types path) ≡ word_of_scalar sc p x → ((y : ℕ) → y ≢ a + words_to_part structs types path → m' y ≡ m y) → RegionHeld sc p m' a types (value_with v path x)
+  pub same_locals : (sc : Scope) (p : Bases) (live : ℕ → Bool) (m m' : ℕ → ℕ) (a : ℕ) (types : List Ty) (v : Value) → sc.env.structs ≡ structs → ((x : ℕ) → a ≤ x → x < a + words_of_all structs types → m' x ≡ m x)
+      → LocalsHeld sc p live m a types v → LocalsHeld sc p live m' a types v
+  pub stored_local : (sc : Scope) (p : Bases) (live later : ℕ → Bool) (m m' : ℕ → ℕ) (a : ℕ) (types : List Ty) (path : List ℕ) (t : Ty) (v x : Value) → sc.env.structs ≡ structs → LeadsFrom structs types path t → IsTrue (is_scalar t)
+      → LocalsHeld sc p live m a types v → m' (a + words_to_part structs types path) ≡ word_of_scalar sc p x → ((y : ℕ) → y ≢ a + words_to_part structs types path → m' y ≡ m y)
+      → ((n : ℕ) → IsTrue (later n) → IsTrue (live n) ⊎ (path ≡ n ∷ [])) → LocalsHeld sc p later m' a types (value_with v path x)
   pub inside : (types : List Ty) (path : List ℕ) (t : Ty) → LeadsFrom structs types path t → IsTrue (is_scalar t) → words_to_part structs types path < words_of_all structs types
 
 -- the types of a region's variables or objects, for a function

@@ -1,5 +1,5 @@
 -- A call of a primitive: the arguments, the jump, the pass, and the answer that waits for its place.
-use Rattle.std.specs.Prelude.{map, slice_get, Option, Some, Ok, if◌then◌else◌}
+use Rattle.std.specs.Prelude.{map, slice_get, Option, Some, Ok, ◌||◌, if◌then◌else◌}
 use Rattle.std.proofs.Common.{◌≡◌, inl, inr, ℕ, suc, ◌+◌, ◌*◌, ◌<◌, ◌≤◌, true, false, List, [], ◌∷◌, ◌++◌, length, refl, sym, ap, ◌∙◌, subst, arith, length-append}
 use Rattle.mips_table.specs.declared.inst.Inst.{Inst}
 use Rattle.mips_table.specs.declared.inst.Inst.TheVariants.{Jal}
@@ -23,19 +23,21 @@ use Rattle.c0_meaning.specs.World.{units, Configuration, after_call}
 use Rattle.c0_meaning.specs.Running.{into, Work, then_go, call_with}
 use Rattle.c0_meaning.specs.TypedState.{StoreTyping, types_of, Fits, AllFit, store_typing, IsTypedWith, AreScalars}
 use Rattle.c0_expr_code.specs.Scope.{Scope}
-use Rattle.c0_expr_code.specs.Bases.{Bases, word, RegionHeld}
+use Rattle.c0_expr_code.specs.Bases.{Bases, word_of_scalar, RegionHeld}
 use Rattle.c0_stmt_code.specs.Code.{calls_in, args_code, answer_code}
 use Rattle.c0_stmt_code.specs.Setup.{Setup, ArePassed, scalar_word, PrimitiveIsCalled, HasReturned}
-use Rattle.c0_stmt_code.specs.Ahead.{Activation, env_in, Block, Awaits, Ahead}
+use Rattle.c0_stmt_code.specs.Ahead.{Activation, body_env, Block, Awaits, Ahead}
+use Rattle.c0_stmt_code.specs.Live.{any_reads, live_at_place}
+use Rattle.c0_stmt_code.proofs.Liveness.{AreLiveBefore}
 use Rattle.c0_stmt_code.specs.Standing.{text, scope, bases, end_of, unit_scope, AreIn, Waiting, FunctionRuns, UnderWay, IsPrimitiveCall, ConfigurationStands, StepIs}
 use Rattle.c0_stmt_code.proofs.Premises.{HeldStays, TypedStays, AllScalar}
 use Rattle.c0_stmt_code.proofs.RunStretches.{none, on, away}
-use Rattle.c0_stmt_code.proofs.Blocks.{front, back}
+use Rattle.c0_stmt_code.proofs.Blocks.{front, back, or_left, or_right}
 use Rattle.c0_stmt_code.proofs.Costs.{values_within}
-use Rattle.c0_stmt_code.proofs.State.{state_of, standing_at, Exprs}
+use Rattle.c0_stmt_code.proofs.FunctionsUnderWay.{state_of, standing_at, Exprs}
 use Rattle.c0_stmt_code.proofs.MemoryAccess.{other_reg, same_reg}
 use Rattle.c0_stmt_code.proofs.Rooms.{variables_same, waiting_same, frame_words, frame_on, words_by_types}
-use Rattle.c0_stmt_code.proofs.Places.{its_exprs, its_ready}
+use Rattle.c0_stmt_code.proofs.ValuesToPlaces.{its_exprs, its_ready}
 use Rattle.c0_stmt_code.proofs.Args.{InRegisters, args_run}
 use Rattle.c0_stmt_code.proofs.CallActs.{stands_soft, then_soft, calls_to}
 
@@ -58,7 +60,7 @@ scalars_alone structs lay (t ∷ ts) (part v vs) h = (scalar_alone structs [] la
 scalars_alone structs lay [] (part v vs) h = absurd h
 scalars_alone structs lay (t ∷ ts) empty h = absurd h
 
-word_alone : (sc : Scope) (b : Bases) (structs : List Shape) (lay : StoreTyping) (t : Scalar) (v : Value) → Fits structs lay (scalar_ty t) v → word sc b v ≡ scalar_word v
+word_alone : (sc : Scope) (b : Bases) (structs : List Shape) (lay : StoreTyping) (t : Scalar) (v : Value) → Fits structs lay (scalar_ty t) v → word_of_scalar sc b v ≡ scalar_word v
 word_alone sc b structs lay scalar.Int (int z) h = refl
 word_alone sc b structs lay scalar.Bool (bool x) h = refl
 word_alone sc b structs lay scalar.Int (bool x) h = absurd h
@@ -133,25 +135,26 @@ module _ (runs : RunLaws) (compose : RunsCompose) (W E : Type 0) (Outer : W → 
             is = r.is;
             return_at = ap (λ y. if y then t.contents.memory (end_of W E Outer z fs) else t.contents.regs 31) its_calls ∙ stack_same (end_of W E Outer z fs) (omega arith) (omega (arith, fo, ws)) ∙ sym (ap (λ y. if y then c.memory (end_of W E Outer z fs) else c.regs 31) its_calls) ∙ r.return_at;
             frame_at = b.frame_end ∙ r29 ∙ r.frame_at;
-            variables = variables_same W E Outer z held objects c.regs t.contents.regs c.memory t.contents.memory a.function g fs true form r.is (λ x le lt. stack_same x (omega (arith, le)) lt) r.variables;
+            variables = variables_same W E Outer z held objects a.live c.regs t.contents.regs c.memory t.contents.memory a.function g fs true form r.is (λ x le lt. stack_same x (omega (arith, le)) lt) r.variables;
           },
           waiting_same W E Outer z held objects c.memory t.contents.memory others fs (λ x le lt. stack_same x le (omega (arith, lt, fo))) waits,
         ),
       )
 
-  pub calls_primitive : (n : ℕ) (row : CPrimitive) (args : List CExpr) (p : CExpr) (rest : CStmts) (work : List Work) → slice_get z.table n ≡ Some row → AreNumberedGiven (env_in (text W E Outer z) a.function) args (map scalar_ty row.args) → length args ≤ 8
-      → (item : Work) → ((u : ℕ) (vs : Values) → values_of args here.state ≡ costs u (Ok vs) → IsPrimitiveCall here item n vs) → IsNumberedLeft (env_in (text W E Outer z) a.function) p (scalar_ty row.answer) → call_need p args ≤ MAX_NEED → nodes p + args_nodes args + 1 ≤ 2000 → 1 ≤ length (answer_code sc p)
+  pub calls_primitive : (n : ℕ) (row : CPrimitive) (args : List CExpr) (p : CExpr) (rest : CStmts) (work : List Work) → slice_get z.table n ≡ Some row → AreNumberedGiven (body_env (text W E Outer z) a.function) args (map scalar_ty row.args) → length args ≤ 8
+      → (item : Work) → ((u : ℕ) (vs : Values) → values_of args here.state ≡ costs u (Ok vs) → IsPrimitiveCall here item n vs) → IsNumberedLeft (body_env (text W E Outer z) a.function) p (scalar_ty row.answer) → call_need p args ≤ MAX_NEED → nodes p + args_nodes args + 1 ≤ 2000 → 1 ≤ length (answer_code sc p)
       → CodeAt z.w k (args_code sc args 0 ++ (Jal ((text W E Outer z).links.primitive n) ∷ answer_code sc p))
       → Block (text W E Outer z) a.function (k + length (args_code sc args 0 ++ (Jal ((text W E Outer z).links.primitive n) ∷ answer_code sc p))) debt rest (λ to left. Ahead (text W E Outer z) (a ∷ others) to left work)
+      → AreLiveBefore a.live others (λ m b. any_reads args m || live_at_place p m b) rest work
       → StepIs W E Outer z debt item here (at_with k c d) (then_go (units 1) here (values_of args here.state) (λ cost vs. call_with z.p cost Primitive n vs (into p rest) work here))
-  calls_primitive n row args p rest work is given count item its_call left deep few some code block =
+  calls_primitive n row args p rest work is given count item its_call left deep few some code block live =
       let ex = its_exprs runs compose W E Outer z jumps straight held typing exprs objects gv hv hw g fs world calls answer c d a others st r waits in
       let rd = its_ready runs compose W E Outer z jumps straight held typing exprs objects gv hv hw g fs world calls answer c d a others st r waits in
       let index : ℕ = (text W E Outer z).links.primitive n in
       let k1 : ℕ = k + length (args_code sc args 0) in
       let fa = z.few_arguments n row is in
       let jal_at = back z.w k (args_code sc args 0) (Jal ((text W E Outer z).links.primitive n) ∷ answer_code sc p) code in
-      let run = args_run compose z.w sc (env_in (text W E Outer z) a.function) (bases W E Outer z objects (g ∷ fs)) (state_of gv hv hw (g ∷ fs)) d ex form st.idle args (map scalar_ty row.args) 0 k c rd given (all_scalar row.args) (omega (arith, deep)) (omega (arith, few)) (omega (arith, count))
+      let run = args_run compose z.w sc (body_env (text W E Outer z) a.function) (bases W E Outer z objects (g ∷ fs)) a.live (state_of gv hv hw (g ∷ fs)) d ex form st.idle args (map scalar_ty row.args) 0 k c rd (λ m q. live.0 m (or_left (any_reads args m) _ q)) given (all_scalar row.args) (omega (arith, deep)) (omega (arith, few)) (omega (arith, count))
       (front z.w k (args_code sc args 0) (Jal ((text W E Outer z).links.primitive n) ∷ answer_code sc p) code) in
       let len : k + length (args_code sc args 0 ++ (Jal ((text W E Outer z).links.primitive n) ∷ answer_code sc p)) ≡ k1 + 1 + length (answer_code sc p) = omega (arith, length-append (args_code sc args 0) (Jal ((text W E Outer z).links.primitive n) ∷ answer_code sc p)) in
       let first = first_of z.w (k1 + 1) (answer_code sc p) some jal_at.1 in
@@ -204,5 +207,6 @@ module _ (runs : RunLaws) (compose : RunsCompose) (W E : Type 0) (Outer : W → 
               answer = result ∙ sym (word_alone (unit_scope z.p.unit) (bases W E Outer z objects []) [] (record { globals = []; objects = [] }) row.answer (z.p.meaning n vs world).answer scalar);
               ahead = subst (λ y. Awaits (text W E Outer z) (a ∷ others) y debt (scalar_ty row.answer) (into p rest) work (λ acts to left. Ahead (text W E Outer z) acts to left work)) (sym b.at)
                   (record { left = left; shallow = omega (arith, deep); few = omega (arith, few) }, jal_at.1, subst (λ y. Block (text W E Outer z) a.function y debt rest (λ to left. Ahead (text W E Outer z) (a ∷ others) to left work)) len block);
+              live = ((λ m q. live.0 m (or_right (any_reads args m) _ q)), live.1);
             };
       })

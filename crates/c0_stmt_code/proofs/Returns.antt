@@ -27,15 +27,17 @@ use Rattle.c0_expr_code.specs.Relation.{KeepsRegisters, HoldsValue, Evaluates, S
 use Rattle.c0_stmt_code.specs.Code.{calls_in, frame_slot, end_code, restore_code, frame_return, register_return, exit_code, answer_code, stored_code}
 use Rattle.c0_stmt_code.specs.Setup.{Setup}
 use Rattle.c0_stmt_code.specs.Journey.{Led}
-use Rattle.c0_stmt_code.specs.Ahead.{Activation, HasAnswerPlace, Block, Awaits, ReturnStands, Ahead}
+use Rattle.c0_expr_code.specs.Reads.{reads, Covers}
+use Rattle.c0_stmt_code.specs.Ahead.{Activation, HasAnswerPlace, Block, Awaits, ReturnStands, Ahead, AnswerIsLive, WaitingAreLive}
+use Rattle.c0_stmt_code.proofs.Liveness.{AreLiveAtPlace}
 use Rattle.c0_stmt_code.specs.Standing.{text, scope, bases, end_of, unit_scope, word_of_value, Waiting, FunctionRuns, UnderWay, ConfigurationStands}
 use Rattle.c0_stmt_code.proofs.Premises.{HeldStays, TypedStays, FunctionsAre, LengthsFit}
 use Rattle.c0_stmt_code.proofs.RunStretches.{none, on, of}
 use Rattle.c0_stmt_code.proofs.Blocks.{front, back}
 use Rattle.c0_stmt_code.proofs.Costs.{value_within}
 use Rattle.c0_stmt_code.proofs.ValuesStay.{word_same}
-use Rattle.c0_stmt_code.proofs.Places.{its_exprs, its_ready, store_in}
-use Rattle.c0_stmt_code.proofs.State.{rest_of, state_of, standing_at, Exprs}
+use Rattle.c0_stmt_code.proofs.ValuesToPlaces.{its_exprs, its_ready, store_in}
+use Rattle.c0_stmt_code.proofs.FunctionsUnderWay.{rest_of, state_of, standing_at, Exprs}
 use Rattle.c0_stmt_code.proofs.MemoryAccess.{other_reg, same_reg, read_is, like_read, place_steps, few_steps, on_place}
 use Rattle.c0_stmt_code.proofs.Rooms.{frame_words, frame_on, variables_same}
 use Rattle.c0_stmt_code.proofs.Frames.{frame_address, ends}
@@ -174,7 +176,7 @@ module _ (runs : RunLaws) (compose : RunsCompose) (W E : Type 0) (Outer : W → 
       is = w.0.is;
       return_at = ap (λ y. if y then c'.memory (end_of W E Outer z frames) else c'.regs 31) w.0.calls ∙ ap (λ m. m (end_of W E Outer z frames)) memory ∙ w.0.return_at;
       frame_at = at ∙ sym (ap (λ y. 4 * (if y then end_of W E Outer z frames else end_of W E Outer z (q ∷ frames))) w.0.in_frame);
-      variables = variables_same W E Outer z held objects c.memory c'.regs c.memory c'.memory b.function q frames true w.0.in_frame w.0.is (λ x le lt. ap (λ m. m x) memory) w.0.variables;
+      variables = variables_same W E Outer z held objects b.live c.memory c'.regs c.memory c'.memory b.function q frames true w.0.in_frame w.0.is (λ x le lt. ap (λ m. m x) memory) w.0.variables;
     },
     subst (λ m. Waiting W E Outer z objects m more frames) (sym memory) w.1,
   )
@@ -182,15 +184,15 @@ module _ (runs : RunLaws) (compose : RunsCompose) (W E : Type 0) (Outer : W → 
   -- the answer is handed over
   delivers : (l m : ℕ) (cost : Cost) (h0 : Configuration W E) (s0 : CodeState) (target : Target) (v : Value) (work : List Work) (t : Ty) (c' : Contents) → Path runs compose W E Outer z jumps l m s0 (at_with a.to c' d) → cost.own ≤ 2048 * l → m ≤ 30 * cost.own → length calls ≡ calls_ended h0
       → c'.memory ≡ c.memory → c'.special ≡ c.special → c'.regs 28 ≡ c.regs 28 → c'.regs 30 ≡ c.regs 30 → c'.regs 29 ≡ 4 * end_of W E Outer z fs → Fits (shapes z.p.unit) (store_typing z.p.unit objects) t v → c'.regs 2 ≡ word_of_value W E Outer z objects v
-      → Awaits (text W E Outer z) others a.to debt t target work (λ acts at left. Ahead (text W E Outer z) acts at left work) → GoesOn W E Outer z debt h0 s0 (deliver cost target v work there)
-  delivers l m cost h0 s0 target v work t c' path low high en memory special r28 r30 r29 fits is ahead = by_target others fs waits target work ahead refl
+      → Awaits (text W E Outer z) others a.to debt t target work (λ acts at left. Ahead (text W E Outer z) acts at left work) → AnswerIsLive others target work (λ below. WaitingAreLive below work) → GoesOn W E Outer z debt h0 s0 (deliver cost target v work there)
+  delivers l m cost h0 s0 target v work t c' path low high en memory special r28 r30 r29 fits is ahead live = by_target others fs waits target work ahead live refl
     where
       led_to : (h' : Configuration W E) → h'.calls ≡ calls → Led z.w cost.own debt debt h0 h' s0 (at_with a.to c' d)
       led_to h' e = let le = path.high in let ge = path.low in let n = ap length e in record { own = path.own; high = omega (arith, le, high); low = omega (arith, ge, low); ended_so = n ∙ en; run = path.run }
 
-      by_target : (acts : List Activation) (frames : List Frame) → Waiting W E Outer z objects c.memory acts frames → (target : Target) (work : List Work) → Awaits (text W E Outer z) acts a.to debt t target work (λ acts at left. Ahead (text W E Outer z) acts at left work) → frames ≡ fs
+      by_target : (acts : List Activation) (frames : List Frame) → Waiting W E Outer z objects c.memory acts frames → (target : Target) (work : List Work) → Awaits (text W E Outer z) acts a.to debt t target work (λ acts at left. Ahead (text W E Outer z) acts at left work) → AnswerIsLive acts target work (λ below. WaitingAreLive below work) → frames ≡ fs
           → GoesOn W E Outer z debt h0 s0 (deliver cost target v work there)
-      by_target (b ∷ more) (q ∷ frames) w (into place rest) work ah e = (
+      by_target (b ∷ more) (q ∷ frames) w (into place rest) work ah lv e = (
         at_with a.to c' d,
         debt,
         led_to there refl,
@@ -203,9 +205,10 @@ module _ (runs : RunLaws) (compose : RunsCompose) (W E : Type 0) (Outer : W → 
           fits = fits;
           answer = is;
           ahead = ah;
+          live = lv;
         },
       )
-      by_target [] [] w outward [] ah e = (
+      by_target [] [] w outward [] ah lv e = (
         at_with a.to c' d,
         debt,
         led_to (record there { answer = Some v }) refl,
@@ -219,17 +222,18 @@ module _ (runs : RunLaws) (compose : RunsCompose) (W E : Type 0) (Outer : W → 
           answer = is;
         },
       )
-      by_target [] [] w outward (i ∷ work) ah e = absurd ah
-      by_target [] [] w (into place rest) work ah e = absurd ah
-      by_target (b ∷ more) (q ∷ frames) w outward work ah e = absurd ah
-      by_target [] (q ∷ frames) w target work ah e = absurd w
-      by_target (b ∷ more) [] w target work ah e = absurd w
+      by_target [] [] w outward (i ∷ work) ah lv e = absurd ah
+      by_target [] [] w (into place rest) work ah lv e = absurd ah
+      by_target (b ∷ more) (q ∷ frames) w outward work ah lv e = absurd ah
+      by_target [] (q ∷ frames) w target work ah lv e = absurd w
+      by_target (b ∷ more) [] w target work ah lv e = absurd w
 
   -- a return from a function that has a frame
   pub leaves : (result : CExpr) (target : Target) (work : List Work) → sc.in_registers ≡ false → ReturnStands (text W E Outer z) a.function k result
       → Awaits (text W E Outer z) others a.to debt (ty_of a.function.answer) target work (λ acts at left. Ahead (text W E Outer z) acts at left work)
+      → Covers a.live (reads result) → AnswerIsLive others target work (λ below. WaitingAreLive below work)
       → GoesOn W E Outer z debt here (at_with k c d) (then_go (units 0) here (value_of result here.state) (λ cost v. deliver cost target v work there))
-  leaves result target work form stands ahead =
+  leaves result target work form stands ahead cover live =
       let t : Ty = ty_of a.function.answer in
       let ex = its_exprs runs compose W E Outer z jumps straight held typing exprs objects gv hv hw g fs world calls answer c d a others st r waits in
       let rd = its_ready runs compose W E Outer z jumps straight held typing exprs objects gv hv hw g fs world calls answer c d a others st r waits in
@@ -238,7 +242,7 @@ module _ (runs : RunLaws) (compose : RunsCompose) (W E : Type 0) (Outer : W → 
       let exit = exit_code sc (calls_in a.function.body) in
       let deep = stands.test.shallow in
       let some = (fit a.function).value_some result 2 8 in
-      let run = ex.value result (ty_of a.function.answer) stands.test.value scalar stands.few 2 8 k c d st.idle rd (front z.w k (value_code sc result 2 8) (exit_code sc (calls_in a.function.body)) stands.code) (omega arith) (omega (arith, deep)) (λ q. absurd (omega (arith, q))) (λ q. absurd (omega (arith, q))) in
+      let run = ex.value result (ty_of a.function.answer) stands.test.value scalar stands.few cover 2 8 k c d st.idle rd (front z.w k (value_code sc result 2 8) (exit_code sc (calls_in a.function.body)) stands.code) (omega arith) (omega (arith, deep)) (λ q. absurd (omega (arith, q))) (λ q. absurd (omega (arith, q))) in
       let k1 : ℕ = k + length (value_code sc result 2 8) in
       let exit_is : exit_code sc (calls_in a.function.body) ≡ frame_return sc (calls_in a.function.body) = cond-false sc.in_registers (register_return (calls_in a.function.body)) (frame_return sc (calls_in a.function.body)) form in
       let exit_at = subst (CodeAt z.w k1) exit_is (back z.w k (value_code sc result 2 8) (exit_code sc (calls_in a.function.body)) stands.code) in
@@ -265,7 +269,7 @@ module _ (runs : RunLaws) (compose : RunsCompose) (W E : Type 0) (Outer : W → 
       (back_there.1.others 28 (λ q. absurd (omega (arith, q))) (λ q. absurd (omega (arith, q))) (λ q. absurd (omega (arith, q))) ∙ keeps.above 28 (λ q. absurd (omega (arith, q))) (omega arith))
       (back_there.1.others 30 (λ q. absurd (omega (arith, q))) (λ q. absurd (omega (arith, q))) (λ q. absurd (omega (arith, q))) ∙ keeps.above 30 (λ q. absurd (omega (arith, q))) (omega arith))
       (back_there.1.frame_at ∙ ap (λ y. 4 * y) base) gives.fits
-      (back_there.1.others 2 (λ q. absurd (omega (arith, q))) (λ q. absurd (omega (arith, q))) (λ q. absurd (omega (arith, q))) ∙ sym (read_is c1.regs 2 (λ q. absurd (omega (arith, q)))) ∙ gives.is ∙ canonical) ahead)
+      (back_there.1.others 2 (λ q. absurd (omega (arith, q))) (λ q. absurd (omega (arith, q))) (λ q. absurd (omega (arith, q))) ∙ sym (read_is c1.regs 2 (λ q. absurd (omega (arith, q)))) ∙ gives.is ∙ canonical) ahead live)
     where
       few_nodes : ReturnStands (text W E Outer z) a.function k result → nodes result ≤ 2000
       few_nodes h = h.few
@@ -273,8 +277,9 @@ module _ (runs : RunLaws) (compose : RunsCompose) (W E : Type 0) (Outer : W → 
   -- a return from a function whose variables stand in registers
   pub leaves_light : (result : CExpr) (target : Target) (work : List Work) → sc.in_registers ≡ true → ReturnStands (text W E Outer z) a.function k result
       → Awaits (text W E Outer z) others a.to debt (ty_of a.function.answer) target work (λ acts at left. Ahead (text W E Outer z) acts at left work)
+      → Covers a.live (reads result) → AnswerIsLive others target work (λ below. WaitingAreLive below work)
       → GoesOn W E Outer z debt here (at_with k c d) (then_go (units 0) here (value_of result here.state) (λ cost v. deliver cost target v work there))
-  leaves_light result target work form stands ahead =
+  leaves_light result target work form stands ahead cover live =
       let t : Ty = ty_of a.function.answer in
       let ex = its_exprs runs compose W E Outer z jumps straight held typing exprs objects gv hv hw g fs world calls answer c d a others st r waits in
       let rd = its_ready runs compose W E Outer z jumps straight held typing exprs objects gv hv hw g fs world calls answer c d a others st r waits in
@@ -283,7 +288,7 @@ module _ (runs : RunLaws) (compose : RunsCompose) (W E : Type 0) (Outer : W → 
       let exit = exit_code sc (calls_in a.function.body) in
       let deep = stands.test.shallow in
       let some = (fit a.function).value_some result 2 8 in
-      let run = ex.value result (ty_of a.function.answer) stands.test.value scalar stands.few 2 8 k c d st.idle rd (front z.w k (value_code sc result 2 8) (exit_code sc (calls_in a.function.body)) stands.code) (omega arith) (omega (arith, deep)) (λ q. absurd (omega (arith, q))) (λ q. absurd (omega (arith, q))) in
+      let run = ex.value result (ty_of a.function.answer) stands.test.value scalar stands.few cover 2 8 k c d st.idle rd (front z.w k (value_code sc result 2 8) (exit_code sc (calls_in a.function.body)) stands.code) (omega arith) (omega (arith, deep)) (λ q. absurd (omega (arith, q))) (λ q. absurd (omega (arith, q))) in
       let k1 : ℕ = k + length (value_code sc result 2 8) in
       let exit_is : exit_code sc (calls_in a.function.body) ≡ register_return (calls_in a.function.body) = cond-true sc.in_registers (register_return (calls_in a.function.body)) (frame_return sc (calls_in a.function.body)) form in
       let exit_at = subst (CodeAt z.w k1) exit_is (back z.w k (value_code sc result 2 8) (exit_code sc (calls_in a.function.body)) stands.code) in
@@ -309,7 +314,7 @@ module _ (runs : RunLaws) (compose : RunsCompose) (W E : Type 0) (Outer : W → 
       (back_there.1.others 28 (λ q. absurd (omega (arith, q))) ∙ keeps.above 28 (λ q. absurd (omega (arith, q))) (omega arith))
       (back_there.1.others 30 (λ q. absurd (omega (arith, q))) ∙ keeps.above 30 (λ q. absurd (omega (arith, q))) (omega arith))
       (back_there.1.others 29 (λ q. absurd (omega (arith, q))) ∙ at29) gives.fits
-      (back_there.1.others 2 (λ q. absurd (omega (arith, q))) ∙ sym (read_is c1.regs 2 (λ q. absurd (omega (arith, q)))) ∙ gives.is ∙ canonical) ahead)
+      (back_there.1.others 2 (λ q. absurd (omega (arith, q))) ∙ sym (read_is c1.regs 2 (λ q. absurd (omega (arith, q)))) ∙ gives.is ∙ canonical) ahead live)
     where
       few_nodes : ReturnStands (text W E Outer z) a.function k result → nodes result ≤ 2000
       few_nodes h = h.few
@@ -317,8 +322,8 @@ module _ (runs : RunLaws) (compose : RunsCompose) (W E : Type 0) (Outer : W → 
   -- an answer goes to a place in memory
   pub finishes : (place : CExpr) (v : Value) (rest : CStmts) (work : List Work) (t : Ty) → Fits (shapes z.p.unit) (store_typing z.p.unit objects) t v → c.regs 2 ≡ word_of_value W E Outer z objects v → (made sc place).stands ≡ None
       → HasAnswerPlace (text W E Outer z) a.function place t → CodeAt z.w k (answer_code sc place) → Block (text W E Outer z) a.function (k + length (answer_code sc place)) debt rest (λ to left. Ahead (text W E Outer z) (a ∷ others) to left work)
-      → GoesOn W E Outer z debt here (at_with k c d) (store (units 0) place v rest work here)
-  finishes place v rest work t fits is stands answered code block =
+      → AreLiveAtPlace a.live others place rest work → GoesOn W E Outer z debt here (at_with k c d) (store (units 0) place v rest work here)
+  finishes place v rest work t fits is stands answered code block live =
       let same : answer_code sc place ≡ access_code (λ b y. Sw 2 b y) 8 ((made sc place).place 8) = ap (λ o. stored_code 2 8 o (made sc place).place) stands in
       let shallow = answered.shallow in
       let few = answered.few in
@@ -326,4 +331,4 @@ module _ (runs : RunLaws) (compose : RunsCompose) (W E : Type 0) (Outer : W → 
       store_in runs compose W E Outer z jumps straight held typing exprs objects gv hv hw g fs world calls answer c d a others st r waits 0 debt debt 8 2 k (units 0) here (at_with k c d) place t v rest work (none runs z.w (at_with k c d))
       (omega arith) (omega arith) (omega (arith, few)) (omega (arith, few)) (omega arith) (omega arith) (omega (arith, shallow)) (omega arith) (λ q. absurd (omega (arith, q))) (λ q. absurd (omega (arith, q)))
       (λ b kept. like_read b.regs c.regs 2 (kept.below 2 (λ q. absurd (omega (arith, q))) (λ q. absurd (omega (arith, q))) (omega arith))) (read_is c.regs 2 (λ q. absurd (omega (arith, q))) ∙ is ∙ sym canonical) fits answered.left stands
-      (subst (CodeAt z.w k) same code) (subst (λ is. Block (text W E Outer z) a.function (k + length is) debt rest (λ to left. Ahead (text W E Outer z) (a ∷ others) to left work)) same block)
+      (subst (CodeAt z.w k) same code) (subst (λ is. Block (text W E Outer z) a.function (k + length is) debt rest (λ to left. Ahead (text W E Outer z) (a ∷ others) to left work)) same block) live

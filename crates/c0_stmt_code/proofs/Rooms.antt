@@ -1,5 +1,5 @@
 -- Where words of globals, heap and frames lie, and what stays as it was while others change.
-use Rattle.std.specs.Prelude.{map, slice_get, Some, unwrap_or, if◌then◌else◌}
+use Rattle.std.specs.Prelude.{map, slice_get, IsTrue, Some, unwrap_or, if◌then◌else◌}
 use Rattle.std.specs.Option.{option_map}
 use Rattle.std.proofs.Common.{◌≡◌, ◌≢◌, ℕ, ◌+◌, ◌-◌, ◌<◌, ◌≤◌, Bool, true, false, List, [], ◌∷◌, ◌++◌, refl, ap, ap₂, ◌∙◌, arith, eq-eqb, ne_eqb}
 use Rattle.std.proofs.lemmas.Bool.{cond-true, cond-false}
@@ -12,12 +12,13 @@ use Rattle.c0_meaning.specs.Limits.{words_of_frame, locals_of}
 use Rattle.c0_meaning.specs.Sound.{shapes}
 use Rattle.c0_meaning.specs.State.{Frame, stack_words}
 use Rattle.c0_meaning.specs.TypedState.{types_of}
-use Rattle.c0_expr_code.specs.Bases.{words_of_all, RegionHeld}
+use Rattle.c0_expr_code.specs.Bases.{words_of_all, LocalsHeld}
 use Rattle.c0_stmt_code.specs.Setup.{Setup}
 use Rattle.c0_stmt_code.specs.Ahead.{Activation}
 use Rattle.c0_stmt_code.specs.Code.{calls_in}
 use Rattle.c0_stmt_code.specs.Standing.{scope, bases, end_of, VariablesHeld, Waiting, FunctionRuns}
 use Rattle.c0_stmt_code.proofs.Premises.{HeldStays}
+use Rattle.c0_stmt_code.proofs.Liveness.{with_live}
 
 -- a word that is written, and the others
 pub put_same : (m : ℕ → ℕ) (a v : ℕ) → put m a v a ≡ v
@@ -44,17 +45,17 @@ frame_on u g fs f is = ap (λ o. unwrap_or (option_map (words_of_frame (shapes u
 
 module _ (W E : Type 0) (Outer : W → Contents → Behind → Type 0) (z : Setup W E Outer) (held : HeldStays (shapes z.p.unit)) where
   -- the variables in a frame stay while its words do
-  pub variables_same : (objects : List Ty) (r r' m m' : ℕ → ℕ) (f : CFunction) (g : Frame) (fs : List Frame) (b : Bool) → (scope W E Outer z f).in_registers ≡ false → slice_get z.p.unit.functions g.function ≡ Some f
-      → ((x : ℕ) → end_of W E Outer z fs + 3 ≤ x → x < end_of W E Outer z (g ∷ fs) → m' x ≡ m x) → VariablesHeld W E Outer z objects r m f (g ∷ fs) → VariablesHeld W E Outer z objects r' m' f (g ∷ fs)
-  variables_same objects r r' m m' f g fs b form is e v = by_form (scope W E Outer z f).in_registers form v
+  pub variables_same : (objects : List Ty) (live : ℕ → Bool) (r r' m m' : ℕ → ℕ) (f : CFunction) (g : Frame) (fs : List Frame) (b : Bool) → (scope W E Outer z f).in_registers ≡ false → slice_get z.p.unit.functions g.function ≡ Some f
+      → ((x : ℕ) → end_of W E Outer z fs + 3 ≤ x → x < end_of W E Outer z (g ∷ fs) → m' x ≡ m x) → VariablesHeld W E Outer z objects live r m f (g ∷ fs) → VariablesHeld W E Outer z objects live r' m' f (g ∷ fs)
+  variables_same objects live r r' m m' f g fs b form is e v = by_form (scope W E Outer z f).in_registers form v
     where
-      by_form : (b : Bool) → b ≡ false → RegionHeld (scope W E Outer z f) (bases W E Outer z objects (g ∷ fs)) (if b then r else m) (if b then 20 else (end_of W E Outer z (g ∷ fs) - words_of_frame (shapes z.p.unit) f) + 3) (types_of (scope W E Outer z f).env.locals) g.variables
-          → RegionHeld (scope W E Outer z f) (bases W E Outer z objects (g ∷ fs)) (if b then r' else m') (if b then 20 else (end_of W E Outer z (g ∷ fs) - words_of_frame (shapes z.p.unit) f) + 3) (types_of (scope W E Outer z f).env.locals) g.variables
+      by_form : (b : Bool) → b ≡ false → LocalsHeld (scope W E Outer z f) (bases W E Outer z objects (g ∷ fs)) live (if b then r else m) (if b then 20 else (end_of W E Outer z (g ∷ fs) - words_of_frame (shapes z.p.unit) f) + 3) (types_of (scope W E Outer z f).env.locals) g.variables
+          → LocalsHeld (scope W E Outer z f) (bases W E Outer z objects (g ∷ fs)) live (if b then r' else m') (if b then 20 else (end_of W E Outer z (g ∷ fs) - words_of_frame (shapes z.p.unit) f) + 3) (types_of (scope W E Outer z f).env.locals) g.variables
       by_form true q h = absurd (cc)
       by_form false q h =
           let on = frame_on z.p.unit g fs f is in
           let ws = frame_words z.p.unit f in
-          held.same (scope W E Outer z f) (bases W E Outer z objects (g ∷ fs)) m m' ((end_of W E Outer z (g ∷ fs) - words_of_frame (shapes z.p.unit) f) + 3) (types_of (scope W E Outer z f).env.locals) g.variables refl
+          held.same_locals (scope W E Outer z f) (bases W E Outer z objects (g ∷ fs)) live m m' ((end_of W E Outer z (g ∷ fs) - words_of_frame (shapes z.p.unit) f) + 3) (types_of (scope W E Outer z f).env.locals) g.variables refl
           (λ x le lt. e x (omega (arith, on, le)) (omega (arith, on, ws, lt))) h
 
   -- the functions that wait stay while the words of their frames do
@@ -68,7 +69,7 @@ module _ (W E : Type 0) (Outer : W → Contents → Behind → Type 0) (z : Setu
           in_frame = h.0.in_frame;
           calls = h.0.calls;
           return_at = e (end_of W E Outer z fs) (omega arith) (omega (arith, on, ws)) ∙ h.0.return_at;
-          variables = variables_same objects m m' m m' a.function g fs true h.0.in_frame h.0.is (λ x le lt. e x (omega (arith, le)) lt) h.0.variables;
+          variables = variables_same objects a.live m m' m m' a.function g fs true h.0.in_frame h.0.is (λ x le lt. e x (omega (arith, le)) lt) h.0.variables;
         },
         waiting_same objects m m' acts fs (λ x le lt. e x le (omega (arith, on, lt))) h.1,
       )
@@ -88,11 +89,21 @@ module _ (W E : Type 0) (Outer : W → Contents → Behind → Type 0) (z : Setu
         variables = by_form (scope W E Outer z a.function).in_registers h.variables;
       }
     where
-      by_form : (b : Bool) → RegionHeld (scope W E Outer z a.function) (bases W E Outer z objects (g ∷ fs)) (if b then c.regs else c.memory) (if b then 20 else (end_of W E Outer z (g ∷ fs) - words_of_frame (shapes z.p.unit) a.function) + 3) (types_of (scope W E Outer z a.function).env.locals) g.variables
-          → RegionHeld (scope W E Outer z a.function) (bases W E Outer z objects (g ∷ fs)) (if b then c'.regs else c'.memory) (if b then 20 else (end_of W E Outer z (g ∷ fs) - words_of_frame (shapes z.p.unit) a.function) + 3) (types_of (scope W E Outer z a.function).env.locals) g.variables
-      by_form true v = held.same (scope W E Outer z a.function) (bases W E Outer z objects (g ∷ fs)) c.regs c'.regs 20 (types_of (scope W E Outer z a.function).env.locals) g.variables refl (λ x le lt. regs x le) v
+      by_form : (b : Bool) → LocalsHeld (scope W E Outer z a.function) (bases W E Outer z objects (g ∷ fs)) a.live (if b then c.regs else c.memory) (if b then 20 else (end_of W E Outer z (g ∷ fs) - words_of_frame (shapes z.p.unit) a.function) + 3) (types_of (scope W E Outer z a.function).env.locals) g.variables
+          → LocalsHeld (scope W E Outer z a.function) (bases W E Outer z objects (g ∷ fs)) a.live (if b then c'.regs else c'.memory) (if b then 20 else (end_of W E Outer z (g ∷ fs) - words_of_frame (shapes z.p.unit) a.function) + 3) (types_of (scope W E Outer z a.function).env.locals) g.variables
+      by_form true v = held.same_locals (scope W E Outer z a.function) (bases W E Outer z objects (g ∷ fs)) a.live c.regs c'.regs 20 (types_of (scope W E Outer z a.function).env.locals) g.variables refl (λ x le lt. regs x le) v
       by_form false v =
           let on = frame_on z.p.unit g fs a.function h.is in
           let ws = frame_words z.p.unit a.function in
-          held.same (scope W E Outer z a.function) (bases W E Outer z objects (g ∷ fs)) c.memory c'.memory ((end_of W E Outer z (g ∷ fs) - words_of_frame (shapes z.p.unit) a.function) + 3) (types_of (scope W E Outer z a.function).env.locals) g.variables refl
+          held.same_locals (scope W E Outer z a.function) (bases W E Outer z objects (g ∷ fs)) a.live c.memory c'.memory ((end_of W E Outer z (g ∷ fs) - words_of_frame (shapes z.p.unit) a.function) + 3) (types_of (scope W E Outer z a.function).env.locals) g.variables refl
           (λ x le lt. words x (omega (arith, on, le)) (omega (arith, on, ws, lt))) v
+
+  -- fewer variables are live
+  pub fewer_live : (objects : List Ty) (c : Contents) (a : Activation) (later : ℕ → Bool) (g : Frame) (fs : List Frame) → ((n : ℕ) → IsTrue (later n) → IsTrue (a.live n)) → FunctionRuns W E Outer z objects c a g fs
+      → FunctionRuns W E Outer z objects c (with_live a later) g fs
+  fewer_live objects c a later g fs was h = record {
+    is = h.is;
+    return_at = h.return_at;
+    frame_at = h.frame_at;
+    variables = record { whole = h.variables.whole; held = h.variables.held; same = λ n t there is_live k less. h.variables.same n t there (was n is_live) k less };
+  }

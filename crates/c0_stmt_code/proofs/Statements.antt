@@ -1,6 +1,6 @@
 -- Assignments, choices and loops.
 use Rattle.std.specs.Prelude.{max, ◌&&◌, ◌||◌, IsTrue, Some, None, if◌then◌else◌}
-use Rattle.std.proofs.Common.{◌≡◌, ◌≢◌, ℕ, suc, ◌+◌, ◌*◌, ◌%◌, ◌^◌, ◌<◌, ◌≤◌, Bool, true, false, Option, List, ◌∷◌, ◌++◌, length, refl, ap, subst, arith, length-append}
+use Rattle.std.proofs.Common.{◌≡◌, ◌≢◌, ◌⊎◌, inl, inr, ℕ, suc, ◌+◌, ◌*◌, ◌%◌, ◌^◌, ◌<◌, ◌≤◌, Bool, true, false, Option, List, ◌∷◌, ◌++◌, length, refl, ap, subst, arith, length-append}
 use Rattle.mips_table.specs.declared.inst.Inst.{Inst}
 use Rattle.mips_table.specs.declared.inst.Inst.TheVariants.{Sw}
 use Rattle.mips_table.specs.Code.{Contents, reg, Behind, World, CodeState, at_with, RunLaws, CodeAt}
@@ -24,7 +24,10 @@ use Rattle.c0_expr_code.specs.Test.{test_code}
 use Rattle.c0_expr_code.specs.Relation.{Ready, KeepsRegisters, HoldsValue, Source, nought, its, far, ends}
 use Rattle.c0_stmt_code.specs.Code.{Links, are_calling, calls_in, skip, assigned_code, assign_code, otherwise, otherwise_at, choice_code, back, turn_code, while_code, stmt_code, stmts_code}
 use Rattle.c0_stmt_code.specs.Setup.{Setup}
-use Rattle.c0_stmt_code.specs.Ahead.{Activation, env_in, Skips, Block, LoopStands, Ahead}
+use Rattle.c0_expr_code.specs.Reads.{reads}
+use Rattle.c0_stmt_code.specs.Live.{live_at_place, are_live}
+use Rattle.c0_stmt_code.specs.Ahead.{Activation, body_env, Skips, Block, LoopStands, Ahead, needs}
+use Rattle.c0_stmt_code.proofs.Liveness.{AreLiveBefore, both_live, live_from}
 use Rattle.c0_stmt_code.specs.Standing.{text, scope, bases, Waiting, FunctionRuns, ConfigurationStands}
 use Rattle.c0_stmt_code.proofs.Premises.{ExpressionsDo, HeldStays, TypedStays, LengthsFit}
 use Rattle.c0_stmt_code.proofs.RunStretches.{none}
@@ -32,8 +35,8 @@ use Rattle.c0_stmt_code.proofs.Blocks.{or_left, or_right, front, skipped, Follow
 use Rattle.c0_stmt_code.proofs.Blocks as blocks
 use Rattle.c0_stmt_code.proofs.Costs.{value_within, truth_within}
 use Rattle.c0_stmt_code.proofs.Lengths.{stmts_length, stmt_some}
-use Rattle.c0_stmt_code.proofs.Places.{source_not_one, keeps_low, its_exprs, its_ready, store_in}
-use Rattle.c0_stmt_code.proofs.State.{state_of, standing_at, Exprs, under_on}
+use Rattle.c0_stmt_code.proofs.ValuesToPlaces.{source_not_one, keeps_low, its_exprs, its_ready, store_in}
+use Rattle.c0_stmt_code.proofs.FunctionsUnderWay.{state_of, standing_at, Exprs, under_on}
 use Rattle.c0_stmt_code.proofs.MemoryAccess.{like_read}
 use Rattle.c0_stmt_code.proofs.StepSimulation.{GoesOn, Path, stands_on, arrives, then_comes, then_splits}
 
@@ -89,17 +92,17 @@ module _ (runs : RunLaws) (compose : RunsCompose) (W E : Type 0) (Outer : W → 
   abbrev Behind_it : ℕ → ℕ → Type 0
   Behind_it at owed = Block (text W E Outer z) a.function at owed rest (λ to left. Ahead (text W E Outer z) (a ∷ others) to left work)
 
-  do_exprs : ExpressionsDo z.w (env_in (text W E Outer z) a.function) sc frame_bases (state_of gv hv hw (g ∷ fs))
+  do_exprs : ExpressionsDo z.w (body_env (text W E Outer z) a.function) sc frame_bases a.live (state_of gv hv hw (g ∷ fs))
   do_exprs = its_exprs runs compose W E Outer z jumps straight held typing exprs objects gv hv hw g fs world calls answer c d a others st r waits
 
-  do_ready : Ready sc frame_bases (state_of gv hv hw (g ∷ fs)) c
+  do_ready : Ready sc frame_bases a.live (state_of gv hv hw (g ∷ fs)) c
   do_ready = its_ready runs compose W E Outer z jumps straight held typing exprs objects gv hv hw g fs world calls answer c d a others st r waits
 
   -- an assignment to a place in memory
-  pub assigns : (p v : CExpr) (t : Ty) → IsNumberedLeft (env_in (text W E Outer z) a.function) p t → IsNumberedGiven (env_in (text W E Outer z) a.function) v t → assign_need p v ≤ MAX_NEED → nodes p + nodes v + 1 ≤ 2000
-      → (made sc p).stands ≡ None → CodeAt z.w k (assign_code sc p v) → Behind_it (k + length (assign_code sc p v)) debt
+  pub assigns : (p v : CExpr) (t : Ty) → IsNumberedLeft (body_env (text W E Outer z) a.function) p t → IsNumberedGiven (body_env (text W E Outer z) a.function) v t → assign_need p v ≤ MAX_NEED → nodes p + nodes v + 1 ≤ 2000
+      → (made sc p).stands ≡ None → CodeAt z.w k (assign_code sc p v) → Behind_it (k + length (assign_code sc p v)) debt → AreLiveBefore a.live others (λ n b. reads v n || live_at_place p n b) rest work
       → GoesOn W E Outer z debt here s (then_go (units 1) here (value_of v here.state) (λ cost x. store cost p x rest work here))
-  assigns p v t left given need_fits few stands code block =
+  assigns p v t left given need_fits few stands code block live =
       let op : List Inst = operand_code (made sc v) 8 in
       let q : ℕ = operand_register (made sc v) 8 in
       let same : assign_code sc p v ≡ operand_code (made sc v) 8 ++ access_code (λ y x. Sw (operand_register (made sc v) 8) y x) 9 ((made sc p).place 9) = ap (λ o. assigned_code o (made sc p) (made sc v)) stands in
@@ -107,7 +110,7 @@ module _ (runs : RunLaws) (compose : RunsCompose) (W E : Type 0) (Outer : W → 
       let len : k + length (assign_code sc p v) ≡ k + length (operand_code (made sc v) 8) + length (access_code (λ y x. Sw (operand_register (made sc v) 8) y x) 9 ((made sc p).place 9)) = omega (arith, ap length same, length-append (operand_code (made sc v) 8) (access_code (λ y x. Sw (operand_register (made sc v) 8) y x) 9 ((made sc p).place 9))) in
       let nv = max_left (need v) (need p + 1) 12 need_fits in
       let np = max_right (need v) (need p + 1) 12 need_fits in
-      let run = do_exprs.operand v t given left.scalar (omega (arith, few)) 8 k c d st.idle do_ready (front z.w k (operand_code (made sc v) 8) (access_code (λ y x. Sw (operand_register (made sc v) 8) y x) 9 ((made sc p).place 9)) there) (omega arith) (omega (arith, nv)) in
+      let run = do_exprs.operand v t given left.scalar (omega (arith, few)) (λ m q. live.0 m (or_left (reads v m) _ q)) 8 k c d st.idle do_ready (front z.w k (operand_code (made sc v) 8) (access_code (λ y x. Sw (operand_register (made sc v) 8) y x) 9 ((made sc p).place 9)) there) (omega arith) (omega (arith, nv)) in
       then_comes runs compose W E Outer z jumps 0 0 0 debt 1 (nodes v) (units 1) here here s a.function k (k + length (operand_code (made sc v) 8)) c d objects (HoldsValue sc frame_bases (operand_register (made sc v) 8) 8 8 t c) (value_of v here.state) (λ cost x. store cost p x rest work here)
       (none runs z.w s) (omega arith) (omega arith) st (value_within v here.state) run.1
       (λ u x c1 least most gives path1.
@@ -119,7 +122,8 @@ module _ (runs : RunLaws) (compose : RunsCompose) (W E : Type 0) (Outer : W → 
       (omega arith) (omega arith) (omega (arith, most, few)) (omega (arith, few)) (omega arith) (omega arith) (omega (arith, np)) (omega arith)
       (source_not_one 8 (operand_register (made sc v) 8) (omega arith) run.0) (source_apart 8 (operand_register (made sc v) 8) (omega arith) run.0)
       (λ b kept. source_kept 8 (operand_register (made sc v) 8) c1 b (omega arith) (omega arith) run.0 kept) gives.is gives.fits left stands
-      (blocks.back z.w k (operand_code (made sc v) 8) (access_code (λ y x. Sw (operand_register (made sc v) 8) y x) 9 ((made sc p).place 9)) there) (subst (λ y. Behind_it y debt) len block))
+      (blocks.back z.w k (operand_code (made sc v) 8) (access_code (λ y x. Sw (operand_register (made sc v) 8) y x) 9 ((made sc p).place 9)) there) (subst (λ y. Behind_it y debt) len block)
+      ((λ m q. live.0 m (or_right (reads v m) _ q)), live.1))
 
   -- an `if`
   abbrev yes_words : CStmts → ℕ
@@ -134,10 +138,10 @@ module _ (runs : RunLaws) (compose : RunsCompose) (W E : Type 0) (Outer : W → 
   abbrev far_of : CStmts → CStmts → ℕ
   far_of x y = (yes_words x + otherwise_at y) % 2 ^ 16
 
-  pub chooses : (t : CExpr) (x y : CStmts) → IsNumberedTest (env_in (text W E Outer z) a.function) t bool → AreNumbered (env_in (text W E Outer z) a.function) x → AreNumbered (env_in (text W E Outer z) a.function) y
-      → nodes t + stmts_nodes x + stmts_nodes y + 1 ≤ 2000 → (sc.in_registers ≡ true → IsTrue (are_free_of_calls x && are_free_of_calls y)) → (IsTrue (are_calling x || are_calling y) → calls_in a.function.body ≡ true) → CodeAt z.w k (choice_code sc t y (its_stmts x) (its_stmts y)) → Behind_it (k + length (choice_code sc t y (its_stmts x) (its_stmts y))) debt
+  pub chooses : (t : CExpr) (x y : CStmts) → IsNumberedTest (body_env (text W E Outer z) a.function) t bool → AreNumbered (body_env (text W E Outer z) a.function) x → AreNumbered (body_env (text W E Outer z) a.function) y
+      → nodes t + stmts_nodes x + stmts_nodes y + 1 ≤ 2000 → (sc.in_registers ≡ true → IsTrue (are_free_of_calls x && are_free_of_calls y)) → (IsTrue (are_calling x || are_calling y) → calls_in a.function.body ≡ true) → CodeAt z.w k (choice_code sc t y (its_stmts x) (its_stmts y)) → Behind_it (k + length (choice_code sc t y (its_stmts x) (its_stmts y))) debt → AreLiveBefore a.live others (λ n b. reads t n || (are_live x n b || are_live y n b)) rest work
       → GoesOn W E Outer z debt here s (then_go (units 1) here (truth (value_of t here.state)) (λ cost b. Go cost (push (if b then x else y) (push rest work)) here))
-  chooses t x y test tx ty few free its_calls code block =
+  chooses t x y test tx ty few free its_calls code block live =
       let end : ℕ = k + length (its_test t false (far_of x y)) in
       let f = fit a.function in
       let l1 = f.test t false (far_of x y) 8 in
@@ -145,7 +149,7 @@ module _ (runs : RunLaws) (compose : RunsCompose) (W E : Type 0) (Outer : W → 
       let some = f.test_some t false (far_of x y) 8 in
       let at : otherwise_at y ≤ 1 = at_most y in
       let small : yes_words x + otherwise_at y < 2 ^ 16 = omega (arith, l2, at, few) in
-      let run = do_exprs.test t test.value (omega (arith, few)) false (far_of x y) (end + (yes_words x + otherwise_at y)) 8 k c d st.idle do_ready
+      let run = do_exprs.test t test.value (omega (arith, few)) (λ m q. live.0 m (or_left (reads t m) _ q)) false (far_of x y) (end + (yes_words x + otherwise_at y)) 8 k c d st.idle do_ready
       (front z.w k (its_test t false (far_of x y)) (its_stmts x ++ otherwise y (its_stmts y)) code) (omega arith) (let n = test.shallow in omega (arith, n))
       (record { same = omega (arith, small); short = omega (arith, small); ahead = omega (arith, l1, l2, at, few); behind = omega arith }) in
       let after = blocks.back z.w k (its_test t false (far_of x y)) (its_stmts x ++ otherwise y (its_stmts y)) code in
@@ -182,6 +186,7 @@ module _ (runs : RunLaws) (compose : RunsCompose) (W E : Type 0) (Outer : W → 
           let b = block_of (text W E Outer z) a.function (λ to left. Ahead (text W E Outer z) (a ∷ others) to left (push rest work)) x end (otherwise_at y + follows.count) follows.to follows.left (otherwise_at y + debt) tx (omega (arith, few)) (λ q. (and_parts (are_free_of_calls x) (are_free_of_calls y) (free q)).0) (λ q. its_calls (or_left (are_calling x) (are_calling y) q))
           (front z.w end (its_stmts x) (otherwise y (its_stmts y)) there) over (omega (arith, owed)) follows.ahead in
           arrives runs compose W E Outer z jumps (0 + 1) (0 + (1 + 16 * u)) debt (otherwise_at y + debt) (plus (units 1) (units u)) here here s end c1 d objects a others x (push rest work) path1 (omega (arith, most, few)) (omega (arith, at)) (omega arith) st1 under b
+          (both_live a.live others x rest work (λ m q. live.0 m (or_right (reads t m) _ (or_left (are_live x m _) _ q))) live.1)
       branches false u c1 least most kept path1 there l1 l2 at =
           let end : ℕ = k + length (its_test t false (far_of x y)) in
           let keeps = keeps_low 8 c c1 (omega arith) kept in
@@ -194,6 +199,7 @@ module _ (runs : RunLaws) (compose : RunsCompose) (W E : Type 0) (Outer : W → 
           (subst (λ m. CodeAt z.w m (its_stmts y)) place (otherwise_there z.w sc (text W E Outer z).links y (end + length (its_stmts x)) (blocks.back z.w end (its_stmts x) (otherwise y (its_stmts y)) there)))
           (subst (λ m. Skips z.w follows.count m follows.to) len follows.skips) follows.owed follows.ahead in
           arrives runs compose W E Outer z jumps (0 + 1) (0 + (1 + 16 * u)) debt debt (plus (units 1) (units u)) here here s (end + (yes_words x + otherwise_at y)) c1 d objects a others y (push rest work) path1 (omega (arith, most, few)) (omega arith) (omega arith) st1 under b
+          (both_live a.live others y rest work (λ m q. live.0 m (or_right (reads t m) _ (or_right (are_live x m _) _ q))) live.1)
 
   -- a turn of a loop, from its test on: `first` is 1 where the loop has just begun, by a jump to the test
   abbrev its_loop : CExpr → CStmts → List Inst
@@ -207,8 +213,9 @@ module _ (runs : RunLaws) (compose : RunsCompose) (W E : Type 0) (Outer : W → 
   body_at (next q w) from = from + 1
 
   pub turns : (from first extra : ℕ) (s0 : CodeState) (t : CExpr) (x : CStmts) → LoopStands (text W E Outer z) a.function from t x → Behind_it (from + length (its_loop t x)) debt → 1 ≤ extra → extra ≤ 2 → first ≤ 1
+      → AreLiveBefore a.live others (λ n b. reads t n || (b || are_live x n false)) rest work
       → Path runs compose W E Outer z jumps 0 first s0 (at_with (turn_at t x from) c d) → GoesOn W E Outer z debt here s0 (test_loop (units extra) t x rest work here)
-  turns from first extra s0 t x stands block paid few_units le path =
+  turns from first extra s0 t x stands block paid few_units le live path =
       let f = fit a.function in
       let n = stands.few in
       let l1 = f.test t true (back sc t (its_stmts x)) 8 in
@@ -217,7 +224,7 @@ module _ (runs : RunLaws) (compose : RunsCompose) (W E : Type 0) (Outer : W → 
       let some = f.test_some t true (back sc t (its_stmts x)) 8 in
       let there = blocks.back z.w (from + 1) (its_stmts x) (turn_code sc t (its_stmts x)) stands.code.1 in
       let body = body_words x in
-      let run = do_exprs.test t stands.test.value (omega (arith, n)) true (back sc t (its_stmts x)) (body_at x from) 8 (turn_at t x from) c d st.idle do_ready there (omega arith) (let m = stands.test.shallow in omega (arith, m))
+      let run = do_exprs.test t stands.test.value (omega (arith, n)) (λ m q. live.0 m (or_left (reads t m) _ q)) true (back sc t (its_stmts x)) (body_at x from) 8 (turn_at t x from) c d st.idle do_ready there (omega arith) (let m = stands.test.shallow in omega (arith, m))
       (record { same = omega (arith, same, body, l1, l2, n); short = omega arith; ahead = omega (arith, body); behind = omega (arith, body, l1, l2, n) }) in
       then_splits runs compose W E Outer z jumps 0 first 1 debt 1 (nodes t) (units extra) here here s0 a.function (turn_at t x from) (ends true (body_at x from) (turn_at t x from + length (turn_code sc t (its_stmts x)))) c d objects (λ b c'. KeepsRegisters 8 8 c c') (truth (value_of t here.state))
       (λ cost b. Go cost (if b then push x (again t x rest ∷ work) else push rest work) here) (apart_ends x) path (omega (arith, paid, le)) (omega arith) st (truth_within t here.state) run
@@ -232,11 +239,16 @@ module _ (runs : RunLaws) (compose : RunsCompose) (W E : Type 0) (Outer : W → 
       apart_ends (next q w) true = let n = stmt_some sc (text W E Outer z).links (fit a.function) q in let l = length-append (stmt_code sc (text W E Outer z).links q) (its_stmts w) in λ e. absurd (omega (arith, e, n, l))
       apart_ends y false = let n = (fit a.function).test_some t true (back sc t (its_stmts y)) 8 in λ e. absurd (omega (arith, e, n))
 
+      -- what the loop's body may read, and what may be read from its next test on
+      again_live : (m : ℕ) → IsTrue (are_live x m false) ⊎ IsTrue (reads t m || (are_live rest m (needs work m) || are_live x m false)) → IsTrue (a.live m)
+      again_live m (inl q) = live.0 m (or_right (reads t m) _ (or_right (are_live rest m (needs work m)) _ q))
+      again_live m (inr q) = live.0 m q
+
       -- the loop's next test stands behind its body
       then_again : Ahead (text W E Outer z) (a ∷ others) (turn_at t x from) debt (again t x rest ∷ work)
       then_again = (from, stands, refl, block)
 
-      entered : (y : CStmts) → y ≡ x → AreNumbered (env_in (text W E Outer z) a.function) y → stmts_nodes y ≤ 2000 → (sc.in_registers ≡ true → IsTrue (are_free_of_calls y)) → (IsTrue (are_calling y) → calls_in a.function.body ≡ true) → z.w.code from ≡ Some (skip (length (its_stmts y))) → CodeAt z.w (from + 1) (its_stmts y)
+      entered : (y : CStmts) → y ≡ x → AreNumbered (body_env (text W E Outer z) a.function) y → stmts_nodes y ≤ 2000 → (sc.in_registers ≡ true → IsTrue (are_free_of_calls y)) → (IsTrue (are_calling y) → calls_in a.function.body ≡ true) → z.w.code from ≡ Some (skip (length (its_stmts y))) → CodeAt z.w (from + 1) (its_stmts y)
           → (owed : ℕ) × (owed ≤ 1 + debt) × Block (text W E Outer z) a.function (body_at y from) owed y (λ to left. Ahead (text W E Outer z) (a ∷ others) to left (again t x rest ∷ work))
       entered done e typed few free its_calls jump code =
           let there : from + 1 + 0 ≡ turn_at t x from = let q : length (its_stmts done) ≡ length (its_stmts x) = ap (λ y. length (its_stmts y)) e in omega (arith, q) in (
@@ -259,7 +271,7 @@ module _ (runs : RunLaws) (compose : RunsCompose) (W E : Type 0) (Outer : W → 
           let under = under_on W E Outer z held objects (g ∷ fs) c c1 (a ∷ others) keeps (r, waits) in
           let b = entered x refl stands.body_typed (omega (arith, n)) stands.free stands.calls stands.code.0 (front z.w (from + 1) (its_stmts x) (turn_code sc t (its_stmts x)) stands.code.1) in
           let owed = b.1 in
-          arrives runs compose W E Outer z jumps (0 + 1) (first + (1 + 16 * u)) debt b.0 (plus (units extra) (units u)) here here s0 (body_at x from) c1 d objects a others x (again t x rest ∷ work) path1 (omega (arith, most, n, few_units)) (omega (arith, owed, paid, le)) (omega arith) st1 under b.2
+          arrives runs compose W E Outer z jumps (0 + 1) (first + (1 + 16 * u)) debt b.0 (plus (units extra) (units u)) here here s0 (body_at x from) c1 d objects a others x (again t x rest ∷ work) path1 (omega (arith, most, n, few_units)) (omega (arith, owed, paid, le)) (omega arith) st1 under b.2 ((λ m q. again_live m (live_from x m _ q)), live.1)
       branches false u c1 least most kept path1 =
           let n = stands.few in
           let keeps = keeps_low 8 c c1 (omega arith) kept in
@@ -267,4 +279,4 @@ module _ (runs : RunLaws) (compose : RunsCompose) (W E : Type 0) (Outer : W → 
           let under = under_on W E Outer z held objects (g ∷ fs) c c1 (a ∷ others) keeps (r, waits) in
           let len : from + length (its_loop t x) ≡ turn_at t x from + length (turn_code sc t (its_stmts x)) = omega (arith, length-append (its_stmts x) (turn_code sc t (its_stmts x))) in
           arrives runs compose W E Outer z jumps (0 + 1) (first + (1 + 16 * u)) debt debt (plus (units extra) (units u)) here here s0 (turn_at t x from + length (turn_code sc t (its_stmts x))) c1 d objects a others rest work path1 (omega (arith, most, n, few_units)) (omega (arith, paid, le)) (omega arith) st1 under
-          (subst (λ m. Behind_it m debt) len block)
+          (subst (λ m. Behind_it m debt) len block) ((λ m q. live.0 m (or_right (reads t m) _ (or_left _ (are_live x m false) q))), live.1)

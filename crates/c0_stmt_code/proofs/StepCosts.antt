@@ -14,7 +14,7 @@ use Rattle.c0_meaning.specs.Value.{Value, Values}
 use Rattle.c0_meaning.specs.Operators.{stuck}
 use Rattle.c0_meaning.specs.Evaluation.{Costed, costs, at_no_cost, truth, value_of, place_of, values_of}
 use Rattle.c0_meaning.specs.World.{Setting, Cost, units, total, plus, Configuration, calls_ended, after_call, call_cost}
-use Rattle.c0_meaning.specs.Running.{Target, into, outward, Work, act_on, finish, again, leave, begin, Step, then_go, store, deliver, enter, call_function, call_with, allocate, test_loop, act_statement, act}
+use Rattle.c0_meaning.specs.Running.{Target, into, outward, Work, act_on, finish, again, leave, begin, Step, then_go, store, deliver, enter, call_function, call_with, allocate, test_loop, act_statement, work_step}
 use Rattle.c0_stmt_code.specs.Setup.{Setup}
 use Rattle.c0_stmt_code.specs.Ahead.{Activation, Awaits, Ahead}
 use Rattle.c0_stmt_code.specs.Standing.{text, Simulated, CostsSome}
@@ -94,7 +94,7 @@ module _ (W E : Type 0) (Outer : W → Contents → Behind → Type 0) (z : Setu
   place_few (a ∷ others) k debt t place rest work ahead = ahead.0.few
   place_few [] k debt t place rest work ahead = absurd ahead
 
-  pub costs_some : (debt : ℕ) (item : Work) (work : List Work) (h : Configuration W E) (s : CodeState) → Simulated W E Outer z debt (item ∷ work) h s → CostsSome h (act z.p item work h)
+  pub costs_some : (debt : ℕ) (item : Work) (work : List Work) (h : Configuration W E) (s : CodeState) → Simulated W E Outer z debt (item ∷ work) h s → CostsSome h (work_step z.p item work h)
   costs_some debt (act_on t rest) work h s sim = statement_some W E z.p h t rest work (statement_few sim.activations s.at debt t rest work sim.ahead)
   costs_some debt (finish place v rest) work h s sim = store_some W E z.p h (units 0) place v rest work refl (omega arith) (place_few sim.activations s.at debt sim.t place rest work sim.ahead)
   costs_some debt (again t body rest) work h s sim = loop_some W E z.p h (units 1) t body rest work (omega arith) refl (omega arith) (loop_few sim.activations s.at debt t body rest work sim.ahead)

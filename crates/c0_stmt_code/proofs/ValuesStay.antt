@@ -10,7 +10,7 @@ use Rattle.c0_meaning.specs.Value.{Region, globals, heap, locals, Value, int, bo
 use Rattle.c0_meaning.specs.Operators.{KernelFault}
 use Rattle.c0_meaning.specs.TypedState.{StoreTyping, types_of, LeadsFrom, PointsTo, Fits, AllFit, AreParts}
 use Rattle.c0_expr_code.specs.Scope.{Scope}
-use Rattle.c0_expr_code.specs.Bases.{Bases, location_word, word, Held, AllHeld, RegionHeld}
+use Rattle.c0_expr_code.specs.Bases.{Bases, location_word, word_of_scalar, Held, AllHeld, RegionHeld}
 
 -- what a scope has beside the unit's structs and globals
 pub record Rest : Type 0 where
@@ -43,7 +43,7 @@ module _ (structs : List Shape) (gs : List Typed) (g h : ℕ) (objects objects' 
   place_same heap path t k = ap (λ n. h + n) (grows path t k)
   place_same locals path t k = absurd k
 
-  pub word_same : (t : Ty) (v : Value) → Fits structs lay t v → word (scope_with structs gs y) (bases_with g h e' objects') v ≡ word (scope_with structs gs x) (bases_with g h e objects) v
+  pub word_same : (t : Ty) (v : Value) → Fits structs lay t v → word_of_scalar (scope_with structs gs y) (bases_with g h e' objects') v ≡ word_of_scalar (scope_with structs gs x) (bases_with g h e objects) v
   word_same ty.int (int z) k = refl
   word_same ty.bool (bool b) k = refl
   word_same (ty.pointer t) null k = refl

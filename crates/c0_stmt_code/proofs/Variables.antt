@@ -8,7 +8,7 @@ use Rattle.c0_meaning.specs.Words.{fields_named, holds, words}
 use Rattle.c0_meaning.specs.Value.{Value, int, bool, null, at, group, Values, empty, part, followed_by, repeated, zero_with, zeros_with, zero_within, zero_of, zeros_of}
 use Rattle.c0_meaning.specs.TypedState.{StoreTyping, types_of, Fits, AllFit}
 use Rattle.c0_expr_code.specs.Scope.{Scope}
-use Rattle.c0_expr_code.specs.Bases.{Bases, words_of_all, word, Held, AllHeld}
+use Rattle.c0_expr_code.specs.Bases.{Bases, words_of_all, word_of_scalar, Held, AllHeld}
 use Rattle.c0_stmt_code.specs.Standing.{AreIn}
 use Rattle.c0_stmt_code.proofs.Premises.{AllScalar}
 
@@ -63,8 +63,8 @@ module _ (sc : Scope) (p : Bases) (layout : StoreTyping) (opened : (x : List ℕ
 
   mutual
     zero_held : (a : ℕ) (t : Ty) (v : Value) → Fits sc.env.structs layout t v → IsZero v → ((x : ℕ) → a ≤ x → x < a + words sc.env.structs t → m x ≡ 0) → Held sc p m a t v
-    zero_held a ty.int (int z) f h e = e a (omega arith) (omega arith) ∙ ap (λ v. word sc p (int v)) (sym h)
-    zero_held a ty.bool (bool b) f h e = e a (omega arith) (omega arith) ∙ ap (λ v. word sc p (bool v)) (sym h)
+    zero_held a ty.int (int z) f h e = e a (omega arith) (omega arith) ∙ ap (λ v. word_of_scalar sc p (int v)) (sym h)
+    zero_held a ty.bool (bool b) f h e = e a (omega arith) (omega arith) ∙ ap (λ v. word_of_scalar sc p (bool v)) (sym h)
     zero_held a (ty.pointer t) null f h e = e a (omega arith) (omega arith)
     zero_held a (ty.named x) (group vs) f h e = zeros_held a (types_of (fields_named sc.env.structs x)) vs f h (λ y le lt. let o = opened x in e y le (omega (arith, lt, o)))
     zero_held a (ty.array t n) (group vs) f h e = zeros_held a (replicate n t) vs f h (λ y le lt. let o = copies n t in e y le (omega (arith, lt, o)))
@@ -84,7 +84,7 @@ module _ (sc : Scope) (p : Bases) (layout : StoreTyping) (opened : (x : List ℕ
   joined_held a (t ∷ ts) us empty ws h g = absurd h
 
   -- scalars that stand in registers are copied to words one behind the other
-  scalar_held : (a : ℕ) (t : Ty) (v : Value) → IsTrue (is_scalar t) → m a ≡ word sc p v → Held sc p m a t v
+  scalar_held : (a : ℕ) (t : Ty) (v : Value) → IsTrue (is_scalar t) → m a ≡ word_of_scalar sc p v → Held sc p m a t v
   scalar_held a ty.int v s h = h
   scalar_held a ty.bool v s h = h
   scalar_held a (ty.pointer t) v s h = h

@@ -1,5 +1,5 @@
 -- What is left to do, as code that stands ahead: where each work item's code is, and how control comes from one to the next.
-use Rattle.std.specs.Prelude.{◌≡◌, ℕ, zero, suc, ◌+◌, ◌<◌, ◌≤◌, true, IsTrue, List, [], ◌∷◌, ◌++◌, length, Some}
+use Rattle.std.specs.Prelude.{◌≡◌, ℕ, zero, suc, ◌+◌, ◌<◌, ◌≤◌, Bool, true, false, ◌||◌, IsTrue, List, [], ◌∷◌, ◌++◌, length, Some}
 use Rattle.mips_table.specs.Code.{World, CodeAt}
 use Rattle.c0_tree.specs.Primitives.{CPrimitive}
 use Rattle.c0_tree.specs.Size.{nodes, stmt_nodes, stmts_nodes}
@@ -11,12 +11,15 @@ use Rattle.c0_meaning.specs.Statement.{MAX_NEED, new_need}
 use Rattle.c0_meaning.specs.Numbered.{IsNumberedLeft, IsNumberedTest, IsNumbered, AreNumbered}
 use Rattle.c0_meaning.specs.Running.{Target, into, outward, Work, act_on, again, leave}
 use Rattle.c0_expr_code.specs.Scope.{Scope, is_free_of_calls, are_free_of_calls}
+use Rattle.c0_expr_code.specs.Reads.{reads, Covers}
+use Rattle.c0_stmt_code.specs.Live.{live_at_place, is_live, are_live}
 use Rattle.c0_stmt_code.specs.Code.{Links, is_calling, are_calling, skip, answer_code, while_code, stmt_code, stmts_code, return_code, calls_in}
 
--- a function that is under way, and the word of the code to which it returns
+-- a function that is under way, the word of the code to which it returns, and which of its variables stand in the machine
 pub record Activation : Type 0 where
   pub function : CFunction
   pub to : ℕ
+  pub live : ℕ → Bool
 
 -- the largest number of nodes of what stands in a function
 abbrev pub MAX_NODES : ℕ
@@ -33,8 +36,8 @@ pub record Text : Type 0 where
   pub back : ℕ
 
 -- the environment of a function's body
-abbrev pub env_in : Text → CFunction → Env
-env_in x f = env_of x.table x.unit (f.params ++ locals_of f.body)
+abbrev pub body_env : Text → CFunction → Env
+body_env x f = env_of x.table x.unit (f.params ++ locals_of f.body)
 
 -- so many jumps lead from one word of the code to another: those over the other branches of `if`s whose first branch is at its end
 abbrev pub Skips : World → ℕ → ℕ → ℕ → Type 0
@@ -43,7 +46,7 @@ Skips w (suc n) k to = (over : ℕ) × (over < 32768) × (w.code k ≡ Some (ski
 
 -- A statement of a function stands at a word. Functions whose variables stand in registers call nothing.
 pub record StatementStands (x : Text) (f : CFunction) (k : ℕ) (t : CStmt) : Type 0 where
-  pub typed : IsNumbered (env_in x f) t
+  pub typed : IsNumbered (body_env x f) t
   pub few : stmt_nodes t ≤ MAX_NODES
   pub free : (x.scope f).in_registers ≡ true → IsTrue (is_free_of_calls t)
   pub calls : IsTrue (is_calling t) → calls_in f.body ≡ true
@@ -58,7 +61,7 @@ Block x f k debt (next t rest) follows =
 
 -- a place that an answer of a type goes to, which is found with free registers from 8 on
 pub record HasAnswerPlace (x : Text) (f : CFunction) (place : CExpr) (t : Ty) : Type 0 where
-  pub left : IsNumberedLeft (env_in x f) place t
+  pub left : IsNumberedLeft (body_env x f) place t
   pub shallow : new_need place ≤ MAX_NEED
   pub few : nodes place ≤ MAX_NODES
 
@@ -72,8 +75,8 @@ Awaits x activations to debt t target work follows = ⊥
 
 -- a loop of a function stands at a word
 pub record LoopStands (x : Text) (f : CFunction) (k : ℕ) (t : CExpr) (body : CStmts) : Type 0 where
-  pub test : IsNumberedTest (env_in x f) t bool
-  pub body_typed : AreNumbered (env_in x f) body
+  pub test : IsNumberedTest (body_env x f) t bool
+  pub body_typed : AreNumbered (body_env x f) body
   pub few : nodes t + stmts_nodes body ≤ MAX_NODES
   pub free : (x.scope f).in_registers ≡ true → IsTrue (are_free_of_calls body)
   pub calls : IsTrue (are_calling body) → calls_in f.body ≡ true
@@ -85,7 +88,7 @@ its_code x f ss = length (stmts_code (x.scope f) x.links ss)
 
 -- a function's answer and its return stand at a word
 pub record ReturnStands (x : Text) (f : CFunction) (k : ℕ) (answer : CExpr) : Type 0 where
-  pub test : IsNumberedTest (env_in x f) answer (ty_of f.answer)
+  pub test : IsNumberedTest (body_env x f) answer (ty_of f.answer)
   pub few : nodes answer ≤ MAX_NODES
   pub code : CodeAt x.w k (return_code (x.scope f) (calls_in f.body) answer)
 
@@ -98,3 +101,27 @@ Ahead x (a ∷ rest) k debt (again t body behind ∷ work) =
 Ahead x (a ∷ rest) k debt (leave answer target ∷ work) =
     ReturnStands x a.function k answer × Awaits x rest a.to debt (ty_of a.function.answer) target work (λ others to left. Ahead x others to left work)
 Ahead x activations k debt work = ⊥
+
+-- which variables of the function that runs what is left to do may read before it assigns them
+abbrev pub needs : List Work → ℕ → Bool
+needs (act_on t behind ∷ work) n = is_live t n (are_live behind n (needs work n))
+needs (again t body behind ∷ work) n = reads t n || (are_live behind n (needs work n) || are_live body n false)
+needs (leave answer target ∷ work) n = reads answer n
+needs work n = false
+
+-- where an answer goes to a place of the caller, all that may be read from there on is live, and in those that wait below
+abbrev pub AnswerIsLive : List Activation → Target → List Work → (List Activation → Type 0) → Type 0
+AnswerIsLive (a ∷ rest) (into place behind) work below = Covers a.live (λ n. live_at_place place n (are_live behind n (needs work n))) × below rest
+AnswerIsLive activations target work below = Unit {0}
+
+-- in each function that waits all is live that may be read in what is left to do
+abbrev pub WaitingAreLive : List Activation → List Work → Type 0
+WaitingAreLive rest (act_on t behind ∷ work) = WaitingAreLive rest work
+WaitingAreLive rest (again t body behind ∷ work) = WaitingAreLive rest work
+WaitingAreLive rest (leave answer target ∷ work) = AnswerIsLive rest target work (λ below. WaitingAreLive below work)
+WaitingAreLive rest work = Unit {0}
+
+-- and in the function that runs
+abbrev pub AllAreLive : List Activation → List Work → Type 0
+AllAreLive (a ∷ rest) work = Covers a.live (needs work) × WaitingAreLive rest work
+AllAreLive [] work = Unit {0}

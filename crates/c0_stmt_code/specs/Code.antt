@@ -2,7 +2,7 @@
 use Rattle.std.specs.Prelude.{ℕ, zero, suc, ◌+◌, ◌-◌, ◌*◌, ◌/◌, ◌%◌, ◌^◌, Bool, true, false, ◌||◌, nat_lt, nat_le, max, if◌then◌else◌, List, [], ◌∷◌, ◌++◌, length, map, slice_index, Option, Some, None}
 use Rattle.mips_table.specs.declared.inst.Inst.{Inst}
 use Rattle.mips_table.specs.declared.inst.Inst.TheVariants.{Addu, Sltu, J, Jal, Jr, Beq, Bne, Addiu, Lw, Sw}
-use Rattle.masm.specs.declared.registers.Places.{Places}
+use Rattle.masm.specs.declared.registers.CodeAddresses.{CodeAddresses}
 use Rattle.masm.specs.declared.registers.TheConstants.{SCRATCH, ANSWER, EXPRESSIONS, FRAME_END, STACK_END, RETURN}
 use Rattle.c0_tree.specs.declared.tree.Kind.{Kind}
 use Rattle.c0_tree.specs.declared.tree.Kind.TheVariants.{Function, Primitive}
@@ -12,9 +12,10 @@ use Rattle.c0_meaning.specs.Env.{typed_of}
 use Rattle.c0_meaning.specs.Words.{words, all_words}
 use Rattle.c0_meaning.specs.Operators.{StackOut}
 use Rattle.c0_expr_code.specs.Scope.{Scope}
-use Rattle.c0_expr_code.specs.Code.{AddressingMode, Made, frame_back, register_of, constant_code, access_code, operand_code, operand_register, made, value_code}
+use Rattle.c0_expr_code.specs.Code.{AddressingMode, Made, frame_back, register_of_variable, constant_code, access_code, operand_code, operand_register, made, value_code}
 use Rattle.c0_expr_code.specs.Test.{test_code}
 use Rattle.c0_asm_body.specs.Code.{asm_code}
+use Rattle.c0_stmt_code.specs.Live.{is_cleared}
 
 -- the jump indices of what calls name: the functions and the primitives by their numbers, and the routine that takes a new object
 pub record Links : Type 0 where
@@ -53,7 +54,7 @@ assign_code sc p v = assigned_code (made sc p).stands (made sc p) (made sc v)
 -- arguments, of which the first has the number i, go to their registers
 abbrev pub args_code : Scope → List CExpr → (i : ℕ) → List Inst
 args_code sc [] i = []
-args_code sc (e ∷ es) i = value_code sc e (register_of i) EXPRESSIONS ++ args_code sc es (suc i)
+args_code sc (e ∷ es) i = value_code sc e (register_of_variable i) EXPRESSIONS ++ args_code sc es (suc i)
 
 -- a call
 abbrev pub call_code : Scope → Links → Kind → ℕ → List CExpr → CExpr → List Inst
@@ -146,48 +147,57 @@ restore_code sc calling = if calling then access_code (λ b k. Lw RETURN b k) SC
 -- so many arguments, of which the first has the number i, go from their registers to the frame, behind its three words
 abbrev pub params_code : Scope → (n i : ℕ) → List Inst
 params_code sc zero i = []
-params_code sc (suc n) i = access_code (λ b k. Sw (register_of i) b k) SCRATCH (frame_slot sc (3 + i)) ++ params_code sc n (suc i)
+params_code sc (suc n) i = access_code (λ b k. Sw (register_of_variable i) b k) SCRATCH (frame_slot sc (3 + i)) ++ params_code sc n (suc i)
 
--- so many words of the frame from i on become 0, a store each
-abbrev pub zeros_code : Scope → (n i : ℕ) → List Inst
-zeros_code sc zero i = []
-zeros_code sc (suc n) i = access_code (λ b k. Sw 0 b k) SCRATCH (frame_slot sc i) ++ zeros_code sc n (suc i)
+-- the frame's word of number i behind its three words becomes 0, where that is asked
+abbrev pub zero_code : Scope → (cleared : Bool) → ℕ → List Inst
+zero_code sc cleared i = if cleared then access_code (λ b k. Sw 0 b k) SCRATCH (frame_slot sc (3 + i)) else []
 
--- the frame's words from i to its end become 0, in a loop
+-- of so many of these words, of which the first has the number i, those become 0 that are to be cleared
+abbrev pub zeros_code : Scope → (cleared : ℕ → Bool) → (n i : ℕ) → List Inst
+zeros_code sc cleared zero i = []
+zeros_code sc cleared (suc n) i = zero_code sc (cleared i) i ++ zeros_code sc cleared n (suc i)
+
+-- the frame's words from number i behind its three words to its end become 0, in a loop
 abbrev pub zeros_loop : Scope → ℕ → List Inst
-zeros_loop sc i = access_code (λ b k. Addiu ANSWER b k) ANSWER (frame_slot sc i) ++ (Sw 0 ANSWER 0 ∷ Addiu ANSWER ANSWER 4 ∷ Bne ANSWER FRAME_END 65533 ∷ [])
+zeros_loop sc i = access_code (λ b k. Addiu ANSWER b k) ANSWER (frame_slot sc (3 + i)) ++ (Sw 0 ANSWER 0 ∷ Addiu ANSWER ANSWER 4 ∷ Bne ANSWER FRAME_END 65533 ∷ [])
 
--- the locals' words, of which there are n, from i to the frame's end
-abbrev pub locals_code : Scope → (n i : ℕ) → List Inst
-locals_code sc n i = if nat_le n 8 then zeros_code sc n i else zeros_loop sc i
+-- the locals' words, of which there are n, from number i behind the frame's three words to its end: few one by one, those that are to be cleared
+abbrev pub locals_code : Scope → (cleared : ℕ → Bool) → (n i : ℕ) → List Inst
+locals_code sc cleared n i = if nat_le n 8 then zeros_code sc cleared n i else zeros_loop sc i
 
--- so many registers of variables become 0, of which the first has the number i
-abbrev pub clear_code : (n i : ℕ) → List Inst
-clear_code zero i = []
-clear_code (suc n) i = Addu (register_of i) 0 0 ∷ clear_code n (suc i)
+-- the register of the variable of number i becomes 0, where that is asked
+abbrev pub clear_one : (cleared : Bool) → ℕ → List Inst
+clear_one cleared i = if cleared then Addu (register_of_variable i) 0 0 ∷ [] else []
+
+-- of so many of these registers, of which the first has the number i, those become 0 that are to be cleared
+abbrev pub clear_code : (cleared : ℕ → Bool) → (n i : ℕ) → List Inst
+clear_code cleared zero i = []
+clear_code cleared (suc n) i = clear_one (cleared i) i ++ clear_code cleared n (suc i)
 
 -- the begin of a function that has a frame: the stack's test, the return address, the parameters and the locals
-abbrev pub frame_entry : Scope → (params : ℕ) → (locals : ℕ) → Bool → List Inst
-frame_entry sc params locals calling =
-    stack_test sc FRAME_END ++ (save_code sc calling ++ (params_code sc params 0 ++ locals_code sc locals (3 + params)))
+abbrev pub frame_entry : Scope → (cleared : ℕ → Bool) → (params locals : ℕ) → Bool → List Inst
+frame_entry sc cleared params locals calling =
+    stack_test sc FRAME_END ++ (save_code sc calling ++ (params_code sc params 0 ++ locals_code sc cleared locals params))
 
 -- the return from it, whose answer is in register 2
 abbrev pub frame_return : Scope → Bool → List Inst
 frame_return sc calling = restore_code sc calling ++ (end_code FRAME_END (frame_back sc) ++ (Jr RETURN ∷ []))
 
 -- the begin of a function whose variables stand in registers: register 29 stays, and only `new` writes the return register
-abbrev pub register_entry : Scope → (params locals : ℕ) → Bool → List Inst
-register_entry sc params locals calling = stack_test sc SCRATCH ++ ((if calling then Sw RETURN FRAME_END 0 ∷ [] else []) ++ clear_code locals params)
+abbrev pub register_entry : Scope → (cleared : ℕ → Bool) → (params locals : ℕ) → Bool → List Inst
+register_entry sc cleared params locals calling =
+    stack_test sc SCRATCH ++ ((if calling then Sw RETURN FRAME_END 0 ∷ [] else []) ++ clear_code cleared locals params)
 
 -- the return from it
 abbrev pub register_return : Bool → List Inst
 register_return calling = (if calling then Lw RETURN FRAME_END 0 ∷ [] else []) ++ (Jr RETURN ∷ [])
 
 -- the begin of a function with statements, and its return behind its answer's code
-abbrev pub entry_code : Scope → (params : ℕ) → List CDecl → Bool → List Inst
-entry_code sc params locals calling =
-    if sc.in_registers then register_entry sc params (length locals) calling
-    else frame_entry sc params (all_words sc.env.structs (map typed_of locals)) calling
+abbrev pub entry_code : Scope → (cleared : ℕ → Bool) → (params : ℕ) → List CDecl → Bool → List Inst
+entry_code sc cleared params locals calling =
+    if sc.in_registers then register_entry sc cleared params (length locals) calling
+    else frame_entry sc cleared params (all_words sc.env.structs (map typed_of locals)) calling
 
 abbrev pub exit_code : Scope → Bool → List Inst
 exit_code sc calling = if sc.in_registers then register_return calling else frame_return sc calling
@@ -199,7 +209,7 @@ return_code sc calling answer = value_code sc answer ANSWER EXPRESSIONS ++ exit_
 -- a function that has statements
 abbrev pub statements_function : Scope → Links → (params : ℕ) → List CDecl → CStmts → CExpr → List Inst
 statements_function sc x params locals stmts answer =
-    entry_code sc params locals (are_calling stmts) ++ (stmts_code sc x stmts ++ return_code sc (are_calling stmts) answer)
+    entry_code sc (is_cleared locals stmts answer) params locals (are_calling stmts) ++ (stmts_code sc x stmts ++ return_code sc (are_calling stmts) answer)
 
 -- a function that has an asm body: it needs no frame, and the stack is tested all the same
 abbrev pub asm_function : Scope → (params : ℕ) → List ℕ → List Inst
@@ -220,7 +230,7 @@ calls_in (code locals stmts answer) = are_calling stmts
 calls_in (asm text span words) = false
 
 -- the indices of the addresses that a unit's code names
-abbrev pub links_of : Places → Links
+abbrev pub links_of : CodeAddresses → Links
 links_of p = record {
   function = λ n. slice_index p.functions.items n / 4;
   primitive = λ n. slice_index p.primitives.items n / 4;

@@ -11,7 +11,7 @@ use Rattle.c0_meaning.specs.TypeAt.{env_in}
 use Rattle.c0_meaning.specs.Unit.{IsWellFormed}
 use Rattle.c0_meaning.specs.Words.{words}
 use Rattle.mips_table.specs.declared.inst.Inst.{Inst}
-use Rattle.masm.specs.declared.registers.Places.{Places}
+use Rattle.masm.specs.declared.registers.CodeAddresses.{CodeAddresses}
 use Rattle.c0_tree.specs.declared.tree.CType.{CType}
 use Rattle.c0_tree.specs.declared.tree.Code.{Code}
 use Rattle.c0_tree.specs.declared.tree.Expr.{Expr}
@@ -56,35 +56,35 @@ FunctionsAreEmittable = (primitives : List CPrimitive) (u : CUnit) → IsWellFor
 abbrev pub skipped_code : List Inst → List Inst
 skipped_code is = skip (length is) ∷ is
 
--- the code of statements of a function's tree, where what they name has these places
-abbrev pub stmts_at : Scene → Places → List Stmt → List Inst
-stmts_at scene places ss = stmts_code (scope_in scene) (links_of places) (stmts_view ss)
+-- the code of statements of a function's tree, where what they name has these addresses
+abbrev pub stmts_at : Scene → CodeAddresses → List Stmt → List Inst
+stmts_at scene addresses ss = stmts_code (scope_in scene) (links_of addresses) (stmts_view ss)
 
 -- of a call, whose answer goes to a place
-abbrev pub call_in : Scene → Places → Kind → (number : ℕ) → List Expr → Expr → List Inst
-call_in scene places kind n args p = call_code (scope_in scene) (links_of places) kind n (map expr_view args) (expr_view p)
+abbrev pub call_in : Scene → CodeAddresses → Kind → (number : ℕ) → List Expr → Expr → List Inst
+call_in scene addresses kind n args p = call_code (scope_in scene) (links_of addresses) kind n (map expr_view args) (expr_view p)
 
 -- of `new` of a type, whose object's address goes to a place
-abbrev pub new_in : Scene → Places → CType → Expr → List Inst
-new_in scene places t p = new_code (scope_in scene) (links_of places) (words (scope_in scene).env.structs (ty_of (type_view t))) (expr_view p)
+abbrev pub new_in : Scene → CodeAddresses → CType → Expr → List Inst
+new_in scene addresses t p = new_code (scope_in scene) (links_of addresses) (words (scope_in scene).env.structs (ty_of (type_view t))) (expr_view p)
 
 -- of the other branch of an `if`
-abbrev pub otherwise_in : Scene → Places → List Stmt → List Inst
-otherwise_in scene places ss = otherwise (stmts_view ss) (stmts_at scene places ss)
+abbrev pub otherwise_in : Scene → CodeAddresses → List Stmt → List Inst
+otherwise_in scene addresses ss = otherwise (stmts_view ss) (stmts_at scene addresses ss)
 
 -- of an `if`
-abbrev pub choice_in : Scene → Places → Expr → (yes no : List Stmt) → List Inst
-choice_in scene places t a b = choice_code (scope_in scene) (expr_view t) (stmts_view b) (stmts_at scene places a) (stmts_at scene places b)
+abbrev pub choice_in : Scene → CodeAddresses → Expr → (yes no : List Stmt) → List Inst
+choice_in scene addresses t a b = choice_code (scope_in scene) (expr_view t) (stmts_view b) (stmts_at scene addresses a) (stmts_at scene addresses b)
 
 -- of a loop
-abbrev pub while_in : Scene → Places → Expr → List Stmt → List Inst
-while_in scene places t b = while_code (scope_in scene) (expr_view t) (stmts_at scene places b)
+abbrev pub while_in : Scene → CodeAddresses → Expr → List Stmt → List Inst
+while_in scene addresses t b = while_code (scope_in scene) (expr_view t) (stmts_at scene addresses b)
 
 -- of a function with statements that has so many parameters
-abbrev pub function_in : Scene → Places → ℕ → Code → List Inst
-function_in scene places params body =
-    statements_function (scope_in scene) (links_of places) params (map decl_view body.locals.items) (stmts_view body.stmts.items) (expr_view body.answer)
+abbrev pub function_in : Scene → CodeAddresses → ℕ → Code → List Inst
+function_in scene addresses params body =
+    statements_function (scope_in scene) (links_of addresses) params (map decl_view body.locals.items) (stmts_view body.stmts.items) (expr_view body.answer)
 
 -- of a function of a unit
-abbrev pub function_at : CUnit → Places → CFunction → List Inst
-function_at u places f = function_code (scope_of u f places) (links_of places) f
+abbrev pub function_at : CUnit → CodeAddresses → CFunction → List Inst
+function_at u addresses f = function_code (scope_of u f addresses) (links_of addresses) f

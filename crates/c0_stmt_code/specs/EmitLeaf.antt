@@ -2,10 +2,12 @@
 use Rattle.std.specs.Prelude.{◌≡◌, ℕ, ◌+◌, ◌≤◌, Bool, if◌then◌else◌, List, [], length, map, Some, slice_get}
 use Rattle.mips_table.specs.declared.inst.Inst.{Inst}
 use Rattle.masm.specs.declared.registers.TheConstants.{RETURN, SCRATCH}
-use Rattle.masm.specs.declared.registers.Places.{Places}
+use Rattle.masm.specs.declared.registers.CodeAddresses.{CodeAddresses}
 use Rattle.c0_tree.specs.Primitives.{CPrimitive}
 use Rattle.c0_tree.specs.Size.{need}
 use Rattle.c0_tree.specs.Tree.{CDecl, CExpr, CFunction, CUnit}
+use Rattle.c0_tree.specs.View.{decl_view, expr_view, stmts_view}
+use Rattle.c0_tree.specs.declared.tree.Code.{Code}
 use Rattle.c0_meaning.specs.Env.{Env, typed_of}
 use Rattle.c0_meaning.specs.Limits.{locals_of}
 use Rattle.c0_meaning.specs.Unit.{IsWellFormed}
@@ -16,6 +18,7 @@ use Rattle.c0_expr_code.specs.Emit.{access_inst}
 use Rattle.c0_expr_code.specs.Scene.{HasNumbers}
 use Rattle.c0_expr_code.specs.Scope.{Scope, scope_of}
 use Rattle.c0_stmt_code.specs.Code.{frame_slot}
+use Rattle.c0_stmt_code.specs.Live.{is_cleared}
 
 -- an expression whose variables and fields there are, and that needs at most so many registers
 pub record CanStand (env : Env) (registers : ℕ) (e : CExpr) : Type 0 where
@@ -26,11 +29,15 @@ pub record CanStand (env : Env) (registers : ℕ) (e : CExpr) : Type 0 where
 abbrev pub kept_code : Scope → Access → (calling : Bool) → List Inst
 kept_code sc access calling = if calling then access_code (access_inst access RETURN) SCRATCH (frame_slot sc 0) else []
 
+-- which locals of a body are 0 behind the begin of its function
+abbrev pub cleared_in : Code → ℕ → Bool
+cleared_in body = is_cleared (map decl_view body.locals.items) (stmts_view body.stmts.items) (expr_view body.answer)
+
 -- a frame has three words of its own, one for each parameter, and those of the locals
 abbrev pub HasFrame : Scope → (params : ℕ) → List CDecl → Type 0
 HasFrame sc params locals = sc.frame ≡ all_words sc.env.structs (map typed_of locals) + 3 + params
 
 -- a law: the frame of each function of a well formed unit is so
 abbrev pub FramesAreThose : Type 0
-FramesAreThose = (primitives : List CPrimitive) (u : CUnit) (n : ℕ) (f : CFunction) (places : Places) → IsWellFormed primitives u
-    → slice_get u.functions n ≡ Some f → HasFrame (scope_of u f places) (length f.params) (locals_of f.body)
+FramesAreThose = (primitives : List CPrimitive) (u : CUnit) (n : ℕ) (f : CFunction) (addresses : CodeAddresses) → IsWellFormed primitives u
+    → slice_get u.functions n ≡ Some f → HasFrame (scope_of u f addresses) (length f.params) (locals_of f.body)

@@ -5,6 +5,7 @@ pub mod EmitLeaf
 pub mod Frames
 pub mod Journey
 pub mod Lengths
+pub mod Live
 pub mod Ranges
 pub mod Rows
 pub mod Setup

@@ -5,7 +5,7 @@ use Rattle.mips_table.specs.declared.inst.Inst.TheVariants.{Jal}
 use Rattle.mips_table.specs.Arith.{flag}
 use Rattle.mips_table.specs.Device.{Idle}
 use Rattle.mips_table.specs.Code.{Contents, Behind, World, Sound, CodeState, CodeAt}
-use Rattle.masm.specs.declared.registers.Places.{Places}
+use Rattle.masm.specs.declared.registers.CodeAddresses.{CodeAddresses}
 use Rattle.cvm_words.specs.Words.{word_of}
 use Rattle.c0_tree.specs.Primitives.{CPrimitive}
 use Rattle.c0_tree.specs.Tree.{CFunction, CUnit}
@@ -73,7 +73,7 @@ pub record Setup (W E : Type 0) (Outer : W → Contents → Behind → Type 0) :
   pub table : List CPrimitive
   pub p : Setting W E
   pub well_formed : IsWellFormed table p.unit
-  pub places : Places
+  pub addresses : CodeAddresses
   pub a : UnitData
   -- globals, heap and stack follow one another, behind the layer's variables, and may be written
   pub low : 1031 ≤ a.globals
@@ -82,14 +82,14 @@ pub record Setup (W E : Type 0) (Outer : W → Contents → Behind → Type 0) :
   pub stack_fits : a.stack + p.stack ≤ w.words
   pub stack_small : p.stack ≤ MAX_STACK
   pub ours : (k : ℕ) → IsOurs a p.stack k → w.kept k ≡ None
-  pub globals_at : places.globals ≡ 4 * a.globals
+  pub globals_at : addresses.globals ≡ 4 * a.globals
   -- the code of each function and of the routine `new` stands at its place
   pub functions : (n : ℕ) (f : CFunction) → slice_get p.unit.functions n ≡ Some f
-      → CodeAt w ((links_of places).function n) (function_code (scope_of p.unit f places) (links_of places) f)
-  pub new_object : CodeAt w (links_of places).new_object runtime.new_code
+      → CodeAt w ((links_of addresses).function n) (function_code (scope_of p.unit f addresses) (links_of addresses) f)
+  pub new_object : CodeAt w (links_of addresses).new_object runtime.new_routine
   -- what isn't the unit's is the rest of the machine's
   pub outer_stays : (v : W) (c c' : Contents) (d : Behind) → ((k : ℕ) → (IsOurs a p.stack k → ⊥) → c'.memory k ≡ c.memory k)
       → c'.special ≡ c.special → Outer v c d → Outer v c' d
   -- primitives have few arguments, and the code that calls one isn't the primitive itself
   pub few_arguments : (n : ℕ) (row : CPrimitive) → slice_get table n ≡ Some row → length row.args ≤ 8
-  pub elsewhere : (n k : ℕ) → w.code k ≡ Some (Jal ((links_of places).primitive n)) → k ≢ (links_of places).primitive n
+  pub elsewhere : (n k : ℕ) → w.code k ≡ Some (Jal ((links_of addresses).primitive n)) → k ≢ (links_of addresses).primitive n

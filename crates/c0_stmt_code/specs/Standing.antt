@@ -1,5 +1,5 @@
 -- How a configuration of C0 with what is left to do stands in the machine.
-use Rattle.std.specs.Prelude.{◌≡◌, ℕ, suc, ◌+◌, ◌*◌, ◌≤◌, ◌⊎◌, true, false, if◌then◌else◌, List, [], ◌∷◌, map, Some, Ok, slice_get}
+use Rattle.std.specs.Prelude.{◌≡◌, ℕ, suc, ◌+◌, ◌*◌, ◌≤◌, ◌⊎◌, Bool, true, false, if◌then◌else◌, List, [], ◌∷◌, map, Some, Ok, slice_get}
 use Rattle.mips_table.specs.Device.{Idle}
 use Rattle.mips_table.specs.Code.{Contents, Behind, CodeState, Steps}
 use Rattle.c0_tree.specs.Primitives.{CPrimitive}
@@ -13,14 +13,14 @@ use Rattle.c0_meaning.specs.State.{Frame, variables_of, stack_words}
 use Rattle.c0_meaning.specs.World.{Cost, total, Configuration, calls_ended, after_call, call_cost}
 use Rattle.c0_meaning.specs.Operators.{KernelFault, faulted, stuck}
 use Rattle.c0_meaning.specs.Evaluation.{costs, values_of}
-use Rattle.c0_meaning.specs.Running.{Target, into, outward, Work, act_on, finish, again, leave, begin, Step, Go, Stop, act}
+use Rattle.c0_meaning.specs.Running.{Target, into, outward, Work, act_on, finish, again, leave, begin, Step, Go, Stop, work_step}
 use Rattle.c0_meaning.specs.TypedState.{types_of, Fits, AllFit, store_typing, IsTypedWith, AreDeclared, IsScalar}
 use Rattle.c0_expr_code.specs.Scope.{Scope, scope_of, exit_of}
-use Rattle.c0_expr_code.specs.Bases.{Bases, words_of_all, locals_start, word, RegionHeld}
+use Rattle.c0_expr_code.specs.Bases.{Bases, words_of_all, locals_start, word_of_scalar, RegionHeld, LocalsHeld}
 use Rattle.c0_stmt_code.specs.Code.{links_of, calls_in}
 use Rattle.c0_stmt_code.specs.Setup.{Setup, scalar_word, HasReturned, PrimitiveIsCalled}
 use Rattle.c0_stmt_code.specs.Journey.{Led, RunStopped}
-use Rattle.c0_stmt_code.specs.Ahead.{Activation, Text, Awaits, Ahead}
+use Rattle.c0_stmt_code.specs.Ahead.{Activation, Text, Awaits, Ahead, AnswerIsLive, WaitingAreLive, AllAreLive}
 
 -- what holds for a unit in every function: values of globals and of the heap point to nothing else
 abbrev pub unit_scope : CUnit → Scope
@@ -29,7 +29,7 @@ unit_scope u = record { env = env_of [] u []; in_registers = false; frame = 0; e
 -- the words of values, from register r on
 abbrev pub AreIn : Scope → Bases → (ℕ → ℕ) → ℕ → Values → Type 0
 AreIn sc b regs r empty = Unit {0}
-AreIn sc b regs r (part v vs) = (regs r ≡ word sc b v) × AreIn sc b regs (suc r) vs
+AreIn sc b regs r (part v vs) = (regs r ≡ word_of_scalar sc b v) × AreIn sc b regs (suc r) vs
 
 -- A work item is a call statement of the primitive of this number, and these are the values of its arguments.
 abbrev pub IsPrimitiveCall : {W E : Type 0} → Configuration W E → Work → (number : ℕ) → Values → Type 0
@@ -40,10 +40,10 @@ IsPrimitiveCall h item number values = ⊥
 module _ (W E : Type 0) (Outer : W → Contents → Behind → Type 0) (z : Setup W E Outer) where
   -- what is the same for all functions
   abbrev pub text : Text
-  text = record { w = z.w; table = z.table; unit = z.p.unit; scope = λ f. scope_of z.p.unit f z.places; links = links_of z.places; back = z.a.back }
+  text = record { w = z.w; table = z.table; unit = z.p.unit; scope = λ f. scope_of z.p.unit f z.addresses; links = links_of z.addresses; back = z.a.back }
 
   abbrev pub scope : CFunction → Scope
-  scope f = scope_of z.p.unit f z.places
+  scope f = scope_of z.p.unit f z.addresses
 
   -- the word behind the newest of these frames
   abbrev pub end_of : List Frame → ℕ
@@ -53,10 +53,10 @@ module _ (W E : Type 0) (Outer : W → Contents → Behind → Type 0) (z : Setu
   abbrev pub bases : List Ty → List Frame → Bases
   bases objects frames = record { globals = z.a.globals; heap = z.a.heap; frame_end = end_of frames; objects = objects }
 
-  -- the variables of the newest of these frames stand in memory or in registers
-  abbrev pub VariablesHeld : List Ty → (regs memory : ℕ → ℕ) → CFunction → List Frame → Type 0
-  VariablesHeld objects regs memory f frames =
-      RegionHeld (scope f) (bases objects frames) (if (scope f).in_registers then regs else memory) (locals_start (scope f) (bases objects frames)) (types_of (scope f).env.locals) (variables_of frames)
+  -- the variables of the newest of these frames stand in memory or in registers, as far as they are live
+  abbrev pub VariablesHeld : List Ty → (live : ℕ → Bool) → (regs memory : ℕ → ℕ) → CFunction → List Frame → Type 0
+  VariablesHeld objects live regs memory f frames =
+      LocalsHeld (scope f) (bases objects frames) live (if (scope f).in_registers then regs else memory) (locals_start (scope f) (bases objects frames)) (types_of (scope f).env.locals) (variables_of frames)
 
   -- a function that waits for an answer: its frame stands in memory, and begins with its return address
   pub record Waits (objects : List Ty) (memory : ℕ → ℕ) (a : Activation) (g : Frame) (frames : List Frame) : Type 0 where
@@ -64,7 +64,7 @@ module _ (W E : Type 0) (Outer : W → Contents → Behind → Type 0) (z : Setu
     pub in_frame : (scope a.function).in_registers ≡ false
     pub calls : calls_in a.function.body ≡ true
     pub return_at : memory (end_of frames) ≡ 4 * a.to
-    pub variables : VariablesHeld objects memory memory a.function (g ∷ frames)
+    pub variables : VariablesHeld objects a.live memory memory a.function (g ∷ frames)
 
   -- the functions that wait, the newest first
   abbrev pub Waiting : List Ty → (ℕ → ℕ) → List Activation → List Frame → Type 0
@@ -78,7 +78,7 @@ module _ (W E : Type 0) (Outer : W → Contents → Behind → Type 0) (z : Setu
     pub is : slice_get z.p.unit.functions g.function ≡ Some a.function
     pub return_at : (if calls_in a.function.body then c.memory (end_of frames) else c.regs 31) ≡ 4 * a.to
     pub frame_at : c.regs 29 ≡ 4 * (if (scope a.function).in_registers then end_of frames else end_of (g ∷ frames))
-    pub variables : VariablesHeld objects c.regs c.memory a.function (g ∷ frames)
+    pub variables : VariablesHeld objects a.live c.regs c.memory a.function (g ∷ frames)
 
   -- the functions that are under way
   abbrev pub UnderWay : List Ty → Contents → List Activation → List Frame → Type 0
@@ -108,7 +108,7 @@ module _ (W E : Type 0) (Outer : W → Contents → Behind → Type 0) (z : Setu
 
   -- the word of a value
   abbrev pub word_of_value : List Ty → Value → ℕ
-  word_of_value objects v = word (unit_scope z.p.unit) (bases objects []) v
+  word_of_value objects v = word_of_scalar (unit_scope z.p.unit) (bases objects []) v
 
   -- what is left to do stands ahead
   pub record Under (debt : ℕ) (work : List Work) (h : Configuration W E) (s : CodeState) : Type 0 where
@@ -117,6 +117,7 @@ module _ (W E : Type 0) (Outer : W → Contents → Behind → Type 0) (z : Setu
     pub activations : List Activation
     pub under_way : UnderWay objects s.contents activations h.state.frames
     pub ahead : Ahead text activations s.at debt work
+    pub live : AllAreLive activations work
 
   -- an answer stands in register 2, and its place is found next
   pub record AnswerWaits (debt : ℕ) (target : Target) (v : Value) (work : List Work) (h : Configuration W E) (s : CodeState) : Type 0 where
@@ -128,6 +129,7 @@ module _ (W E : Type 0) (Outer : W → Contents → Behind → Type 0) (z : Setu
     pub fits : Fits (shapes z.p.unit) (store_typing z.p.unit objects) t v
     pub answer : s.contents.regs 2 ≡ word_of_value objects v
     pub ahead : Awaits text activations s.at debt t target work (λ others to left. Ahead text others to left work)
+    pub live : AnswerIsLive activations target work (λ below. WaitingAreLive below work)
 
   -- a function is entered, with its arguments in registers and its return address in register 31
   pub record FunctionEntered (debt n : ℕ) (args : Values) (target : Target) (work : List Work) (h : Configuration W E) (s : CodeState) : Type 0 where
@@ -168,7 +170,7 @@ module _ (W E : Type 0) (Outer : W → Contents → Behind → Type 0) (z : Setu
   pub record AtExit (f : KernelFault) (h : Configuration W E) (s : CodeState) : Type 0 where
     pub objects : List Ty
     pub stands : ConfigurationStands objects h s.contents s.behind
-    pub at : s.at ≡ exit_of z.places f
+    pub at : s.at ≡ exit_of z.addresses f
 
   -- a step is done: its own units have led the machine to where what is left to do stands
   abbrev pub IsGone : (debt : ℕ) → Configuration W E → CodeState → Cost → List Work → Configuration W E → Type 0
@@ -211,9 +213,9 @@ CostsSome h (Stop cost f h') = (1 ≤ cost.own) × (total cost ≤ 8388608)
 -- a law: so does each step, where what is left to do stands in the machine
 abbrev pub StepsCostSome : (W E : Type 0) (Outer : W → Contents → Behind → Type 0) → Type 0
 StepsCostSome W E Outer = (z : Setup W E Outer) (debt : ℕ) (item : Work) (work : List Work) (h : Configuration W E) (s : CodeState)
-    → Simulated W E Outer z debt (item ∷ work) h s → CostsSome h (act z.p item work h)
+    → Simulated W E Outer z debt (item ∷ work) h s → CostsSome h (work_step z.p item work h)
 
 -- A law: where what is left to do stands in the machine, a step of C0's meaning is a run of the code, over any machine with primitives.
 abbrev pub StepsRun : (W E : Type 0) (Outer : W → Contents → Behind → Type 0) → Type 0
 StepsRun W E Outer = (z : Setup W E Outer) (debt : ℕ) (item : Work) (work : List Work) (h : Configuration W E) (s : CodeState)
-    → Simulated W E Outer z debt (item ∷ work) h s → StepIs W E Outer z debt item h s (act z.p item work h)
+    → Simulated W E Outer z debt (item ∷ work) h s → StepIs W E Outer z debt item h s (work_step z.p item work h)

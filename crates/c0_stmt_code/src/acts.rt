@@ -2,7 +2,7 @@
 
 ghost use Rattle.std.specs.Prelude.{◌≡◌, ◌+◌, ◌/◌, ◌%◌, ◌^◌, ◌<◌, ◌≤◌, map, slice_index};
 ghost use Rattle.std.specs.List.{All};
-ghost use Rattle.masm.specs.Places.{ArePlaces, IsJumpTarget};
+ghost use Rattle.masm.specs.CodeAddresses.{AreCodeAddresses, IsJumpTarget};
 ghost use Rattle.c0_tree.specs.Size.{need};
 ghost use Rattle.c0_tree.specs.View.{expr_view, type_view};
 ghost use Rattle.c0_meaning.specs.Sound.{IsSized};
@@ -23,7 +23,7 @@ use c0_expr_code::{
 };
 use c0_meaning::words_of;
 use c0_tree::{CType, Expr, Kind};
-use masm::registers::{ANSWER, EXPRESSIONS, Places};
+use masm::registers::{ANSWER, CodeAddresses, EXPRESSIONS};
 use mips_table::Inst;
 use std::alloc::AllocError;
 
@@ -37,9 +37,9 @@ fn index_at(addresses: &[u32], number: u32) -> u32
 }
 
 // The jump index of what is called; 0 where there is none.
-fn index_of(places: &Places, kind: Kind, number: u32) -> u32
-    requires { ArePlaces places.now }
-    ensures value { result ≡ callee_index (links_of places.now) kind number }
+fn index_of(addresses: &CodeAddresses, kind: Kind, number: u32) -> u32
+    requires { AreCodeAddresses addresses.now }
+    ensures value { result ≡ callee_index (links_of addresses.now) kind number }
     ensures small { result < 2 ^ 26 }
 {
     match kind {
@@ -48,8 +48,8 @@ fn index_of(places: &Places, kind: Kind, number: u32) -> u32
         Kind::Field => 0,
         Kind::Global => 0,
         Kind::Local => 0,
-        Kind::Function => index_at(&places.functions, number),
-        Kind::Primitive => index_at(&places.primitives, number),
+        Kind::Function => index_at(&addresses.functions, number),
+        Kind::Primitive => index_at(&addresses.primitives, number),
     }
 }
 
@@ -121,23 +121,23 @@ fn emit_args(scene: &Scene<'_>, args: &[Expr], code: &mut Vec<u32>) -> Result<()
 /// Appends the code of a call of the function or primitive of a number, whose answer goes to a place.
 pub fn emit_call(
     scene: &Scene<'_>,
-    places: &Places,
+    addresses: &CodeAddresses,
     kind: Kind,
     number: u32,
     args: &[Expr],
     place: &Expr,
     code: &mut Vec<u32>,
 ) -> Result<(), AllocError>
-    requires places { ArePlaces places.now }
+    requires addresses { AreCodeAddresses addresses.now }
     requires args { All (λ x. CanStand (scope_in scene.now).env 12 (expr_view x)) args.now }
     requires place { CanStand (scope_in scene.now).env 12 (expr_view place.now) }
-    ensures { Appends code.old.items code.new.items (call_in scene.now places.now kind number args.now place.now) result }
+    ensures { Appends code.old.items code.new.items (call_in scene.now addresses.now kind number args.now place.now) result }
 {
     emit_args(scene, args, code)?;
     emit(
         code,
         Inst::Jal {
-            index: index_of(places, kind, number),
+            index: index_of(addresses, kind, number),
         },
     )?;
     emit_answer(scene, place, code)
@@ -154,21 +154,21 @@ fn words_in(scene: &Scene<'_>, ty: &CType) -> u32
 /// Appends the code of `new`, whose object's address goes to a place.
 pub fn emit_new(
     scene: &Scene<'_>,
-    places: &Places,
+    addresses: &CodeAddresses,
     ty: &CType,
     place: &Expr,
     code: &mut Vec<u32>,
 ) -> Result<(), AllocError>
-    requires places { ArePlaces places.now }
+    requires addresses { AreCodeAddresses addresses.now }
     requires ty { IsSized (scope_in scene.now).env.structs (type_view ty.now) }
     requires place { CanStand (scope_in scene.now).env 12 (expr_view place.now) }
-    ensures { Appends code.old.items code.new.items (new_in scene.now places.now ty.now place.now) result }
+    ensures { Appends code.old.items code.new.items (new_in scene.now addresses.now ty.now place.now) result }
 {
     emit_constant(code, ANSWER, words_in(scene, ty))?;
     emit(
         code,
         Inst::Jal {
-            index: places.new_object / 4,
+            index: addresses.new_object / 4,
         },
     )?;
     emit_answer(scene, place, code)

@@ -1,7 +1,7 @@
 // The code of functions.
 
 ghost use Rattle.std.specs.Prelude.{◌≡◌, ◌≤◌, ◌<◌, map, length, IsTrue, OnErr};
-ghost use Rattle.masm.specs.Places.{ArePlaces};
+ghost use Rattle.masm.specs.CodeAddresses.{AreCodeAddresses};
 ghost use Rattle.c0_tree.specs.View.{body_view, decl_view, expr_view, stmts_view, unit_view};
 ghost use Rattle.c0_meaning.specs.Asm.{are_allowed_words};
 ghost use Rattle.c0_meaning.specs.Limits.{locals_of};
@@ -19,7 +19,7 @@ use crate::sequence::emit_statements;
 use c0_asm_body::{emit_arguments, emit_asm};
 use c0_expr_code::{Layout, Scene, begun_scene, emit, emit_value};
 use c0_tree::{AsmText, Body, Code, Expr};
-use masm::registers::{ANSWER, EXPRESSIONS, Places, RETURN, SCRATCH};
+use masm::registers::{ANSWER, CodeAddresses, EXPRESSIONS, RETURN, SCRATCH};
 use mips_table::Inst;
 use std::alloc::{AllocError, Global};
 
@@ -41,20 +41,20 @@ fn emit_return(
 fn emit_code(
     alloc: Global,
     scene: &Scene<'_>,
-    places: &Places,
+    addresses: &CodeAddresses,
     params: u32,
     body: &Code,
     code: &mut Vec<u32>,
 ) -> Result<(), AllocError>
-    requires places { ArePlaces places.now }
+    requires addresses { AreCodeAddresses addresses.now }
     requires frame { HasFrame (scope_in scene.now) params (map decl_view body.now.locals.items) }
     requires stmts { AreEmittable (scope_in scene.now).env (stmts_view body.now.stmts.items) }
     requires answer { CanStand (scope_in scene.now).env 12 (expr_view body.now.answer) }
-    ensures { Appends code.old.items code.new.items (function_in scene.now places.now params body.now) result }
+    ensures { Appends code.old.items code.new.items (function_in scene.now addresses.now params body.now) result }
 {
     let calling = are_calling(&body.stmts);
-    emit_entry(scene, params, &body.locals, calling, code)?;
-    emit_statements(alloc, scene, places, &body.stmts, code)?;
+    emit_entry(scene, params, body, calling, code)?;
+    emit_statements(alloc, scene, addresses, &body.stmts, code)?;
     emit_return(scene, calling, &body.answer, code)
 }
 
@@ -80,18 +80,18 @@ fn emit_asm_function(
 fn emit_body(
     alloc: Global,
     scene: &Scene<'_>,
-    places: &Places,
+    addresses: &CodeAddresses,
     params: u32,
     body: &Body,
     code: &mut Vec<u32>,
 ) -> Result<(), AllocError>
-    requires places { ArePlaces places.now }
+    requires addresses { AreCodeAddresses addresses.now }
     requires frame { HasFrame (scope_in scene.now) params (locals_of (body_view body.now)) }
     requires body { IsEmittableBody (scope_in scene.now).env params (body_view body.now) }
-    ensures { Appends code.old.items code.new.items (body_code (scope_in scene.now) (links_of places.now) params (body_view body.now)) result }
+    ensures { Appends code.old.items code.new.items (body_code (scope_in scene.now) (links_of addresses.now) params (body_view body.now)) result }
 {
     match body {
-        Body::Code(stmts) => emit_code(alloc, scene, places, params, stmts, code),
+        Body::Code(stmts) => emit_code(alloc, scene, addresses, params, stmts, code),
         Body::Asm(text) => emit_asm_function(alloc, scene, params, text, code),
     }
 }
@@ -100,38 +100,38 @@ fn emit_body(
 fn emit_whole(
     alloc: Global,
     layout: &Layout<'_>,
-    places: &Places,
+    addresses: &CodeAddresses,
     number: u32,
     code: &mut Vec<u32>,
 ) -> Result<(), AllocError>
     requires number { number < length (unit_view layout.now.unit.now).functions }
-    requires places { ArePlaces places.now }
-    ensures { OfFunction layout.now number (λ f. Appends code.old.items code.new.items (function_at (unit_of layout.now) places.now f) result) }
+    requires addresses { AreCodeAddresses addresses.now }
+    ensures { OfFunction layout.now number (λ f. Appends code.old.items code.new.items (function_at (unit_of layout.now) addresses.now f) result) }
 {
     functions_are_emittable();
     frames_are_those();
-    let scene = begun_scene(alloc, &*layout, number, places)?;
+    let scene = begun_scene(alloc, &*layout, number, addresses)?;
     let function = &layout.unit.unit().functions[number as usize];
     let params = function.params.len() as u32;
-    emit_body(alloc, &scene, places, params, &function.body, code)
+    emit_body(alloc, &scene, addresses, params, &function.body, code)
 }
 
-/// Appends the code of the function of a number, where the places of what it names are these.
+/// Appends the code of the function of a number, where the addresses of what it names are these.
 ///
 /// Want of memory leaves `code` as it was.
 pub fn emit_function(
     alloc: Global,
     layout: &Layout<'_>,
-    places: &Places,
+    addresses: &CodeAddresses,
     number: u32,
     code: &mut Vec<u32>,
 ) -> Result<(), AllocError>
     requires number { number < length (unit_view layout.now.unit.now).functions }
-    requires places { ArePlaces places.now }
-    ensures appended { OfFunction layout.now number (λ f. Appends code.old.items code.new.items (function_at (unit_of layout.now) places.now f) result) }
+    requires addresses { AreCodeAddresses addresses.now }
+    ensures appended { OfFunction layout.now number (λ f. Appends code.old.items code.new.items (function_at (unit_of layout.now) addresses.now f) result) }
     ensures unchanged { OnErr result (code.new.items ≡ code.old.items) }
 {
     let mut own = Vec::new(alloc);
-    emit_whole(alloc, layout, places, number, &mut own)?;
+    emit_whole(alloc, layout, addresses, number, &mut own)?;
     code.extend_from_slice(&own)
 }

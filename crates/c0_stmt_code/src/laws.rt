@@ -18,7 +18,7 @@ use masm::laws::{jumps_lead, runs_compose, straight_code_runs};
 use mips_table::runs::code_runs_join;
 
 /// The machine under a unit's code: what the rest of it stands for.
-pub trait Outside {
+pub trait Surroundings {
     ghost Standing: { Type 0 };
 
     ghost Entry: { Type 0 };
@@ -30,7 +30,7 @@ pub trait Outside {
 }
 
 /// A step of C0's meaning is a run of the code.
-pub fn steps_run<M: Outside>()
+pub fn steps_run<M: Surroundings>()
     ensures { (fixed : M.Fixed) → StepsRun M.Standing M.Entry (M.outer fixed) }
 {
     expressions_run();
@@ -53,7 +53,7 @@ pub fn steps_run<M: Outside>()
 }
 
 /// Each step costs some units, and one that faults few.
-pub fn steps_cost_some<M: Outside>()
+pub fn steps_cost_some<M: Surroundings>()
     ensures { (fixed : M.Fixed) → StepsCostSome M.Standing M.Entry (M.outer fixed) }
 {}
 

@@ -6,6 +6,7 @@ mod calling;
 pub mod emit_laws;
 mod function;
 pub mod laws;
+mod live;
 mod prologue;
 mod sequence;
 pub mod sizes;

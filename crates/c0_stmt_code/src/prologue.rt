@@ -1,6 +1,6 @@
 // How functions begin and return.
 
-ghost use Rattle.std.specs.Prelude.{◌≡◌, ◌+◌, ◌*◌, ◌%◌, ◌^◌, ◌<◌, ◌∷◌, [], map, if◌then◌else◌};
+ghost use Rattle.std.specs.Prelude.{◌≡◌, ◌+◌, ◌*◌, ◌%◌, ◌^◌, ◌<◌, ◌∷◌, [], length, map, if◌then◌else◌};
 ghost use Rattle.mips_table.specs.declared.inst.Inst.TheVariants.{Addiu, Beq, Bne, J, Sltu, Sw};
 ghost use Rattle.c0_tree.specs.View.{decl_view};
 ghost use Rattle.c0_meaning.specs.Env.{typed_of};
@@ -10,13 +10,14 @@ ghost use Rattle.c0_expr_code.specs.Code as expressions;
 ghost use Rattle.c0_expr_code.specs.Code.{access_code};
 ghost use Rattle.c0_expr_code.specs.Emit.{Appends, access_inst};
 ghost use Rattle.c0_expr_code.specs.Scene.{scope_in};
-ghost use Rattle.c0_stmt_code.specs.Code.{clear_code, end_code, entry_code, exit_code, frame_entry, frame_return, frame_slot, large_code, locals_code};
-ghost use Rattle.c0_stmt_code.specs.Code.{params_code, register_entry, register_return, stack_test, zeros_code, zeros_loop};
-ghost use Rattle.c0_stmt_code.specs.EmitLeaf.{FramesAreThose, HasFrame, kept_code};
+ghost use Rattle.c0_stmt_code.specs.Code.{clear_code, clear_one, end_code, entry_code, exit_code, frame_entry, frame_return, frame_slot, large_code, locals_code};
+ghost use Rattle.c0_stmt_code.specs.Code.{params_code, register_entry, register_return, stack_test, zero_code, zeros_code, zeros_loop};
+ghost use Rattle.c0_stmt_code.specs.EmitLeaf.{FramesAreThose, HasFrame, cleared_in, kept_code};
 
+use crate::live::is_cleared;
 use c0_expr_code::{Access, Address, Scene, emit, emit_access, frame_displacement};
 use c0_meaning::laws::{numbers_tell, units_are_typed_or_faulty};
-use c0_tree::Decl;
+use c0_tree::Code;
 use masm::registers::{ANSWER, ARGUMENTS, FRAME_END, RETURN, SCRATCH, STACK_END};
 use mips_table::Inst;
 use std::alloc::AllocError;
@@ -149,7 +150,7 @@ fn emit_kept(
 
 /// The register of the variable or argument so many behind another.
 pub fn register_behind(first: u32, i: u64) -> u32
-    ensures value { result ≡ expressions.register_of (first + i) }
+    ensures value { result ≡ expressions.register_of_variable (first + i) }
     ensures small { result < 32 }
 {
     (ARGUMENTS + first % 32 + (i % 32) as u32) % 32
@@ -173,27 +174,46 @@ fn emit_params(scene: &Scene<'_>, count: u32, code: &mut Vec<u32>) -> Result<(),
     Ok(())
 }
 
-// Appends stores of 0 to words of the frame.
-fn emit_zeros(
+// Appends the store of 0 to the word of a variable's number, where that is asked.
+fn emit_zero(
     scene: &Scene<'_>,
-    count: u64,
-    first: u64,
+    cleared: bool,
+    variable: u64,
     code: &mut Vec<u32>,
 ) -> Result<(), AllocError>
-    requires { first + count < 2 ^ 64 }
-    ensures { Appends code.old.items code.new.items (zeros_code (scope_in scene.now) count first) result }
+    requires { 3 + variable < 2 ^ 64 }
+    ensures { Appends code.old.items code.new.items (zero_code (scope_in scene.now) cleared variable) result }
 {
-    for i in 0..count {
-        emit_word(scene, Access::Store, 0, SCRATCH, first + i, code)?;
+    if cleared {
+        return emit_word(scene, Access::Store, 0, SCRATCH, 3 + variable, code);
     }
     Ok(())
 }
 
-// Appends a loop that stores 0 from a word of the frame to its end.
+// Appends stores of 0 to the words of variables that are to be cleared.
+fn emit_zeros(
+    scene: &Scene<'_>,
+    body: &Code,
+    count: u64,
+    first: u64,
+    code: &mut Vec<u32>,
+) -> Result<(), AllocError>
+    requires { 3 + first + count < 2 ^ 64 }
+    ensures { Appends code.old.items code.new.items (zeros_code (scope_in scene.now) (cleared_in body.now) count first) result }
+{
+    for i in 0..count {
+        let cleared = is_cleared(body, first + i);
+        emit_zero(scene, cleared, first + i, code)?;
+    }
+    Ok(())
+}
+
+// Appends a loop that stores 0 from the word of a variable's number to the frame's end.
 fn emit_zeros_loop(scene: &Scene<'_>, first: u64, code: &mut Vec<u32>) -> Result<(), AllocError>
+    requires { 3 + first < 2 ^ 64 }
     ensures { Appends code.old.items code.new.items (zeros_loop (scope_in scene.now) first) result }
 {
-    emit_word(scene, Access::Address, ANSWER, ANSWER, first, code)?;
+    emit_word(scene, Access::Address, ANSWER, ANSWER, 3 + first, code)?;
     emit_turns(code)
 }
 
@@ -230,32 +250,44 @@ fn emit_turns(code: &mut Vec<u32>) -> Result<(), AllocError>
 // Appends the code that sets the words of locals to 0.
 fn emit_locals(
     scene: &Scene<'_>,
+    body: &Code,
     count: u64,
     first: u64,
     code: &mut Vec<u32>,
 ) -> Result<(), AllocError>
-    requires { first + count < 2 ^ 64 }
-    ensures { Appends code.old.items code.new.items (locals_code (scope_in scene.now) count first) result }
+    requires { 3 + first + count < 2 ^ 64 }
+    ensures { Appends code.old.items code.new.items (locals_code (scope_in scene.now) (cleared_in body.now) count first) result }
 {
     if count <= FEW_WORDS {
-        return emit_zeros(scene, count, first, code);
+        return emit_zeros(scene, body, count, first, code);
     }
     emit_zeros_loop(scene, first, code)
 }
 
-// Appends the code that sets the registers of variables to 0.
-fn emit_clear(count: usize, first: u32, code: &mut Vec<u32>) -> Result<(), AllocError>
-    ensures { Appends code.old.items code.new.items (clear_code count first) result }
+// Appends the instruction that sets the register of the variable so many behind another to 0, where that is asked.
+fn emit_clear_one(cleared: bool, first: u32, i: u64, code: &mut Vec<u32>) -> Result<(), AllocError>
+    ensures { Appends code.old.items code.new.items (clear_one cleared (first + i)) result }
 {
-    for i in 0..count {
-        emit(
+    if cleared {
+        return emit(
             code,
             Inst::Addu {
-                rd: register_behind(first, i as u64),
+                rd: register_behind(first, i),
                 rs: 0,
                 rt: 0,
             },
-        )?;
+        );
+    }
+    Ok(())
+}
+
+// Appends the code that sets the registers of variables to 0 that are to be cleared.
+fn emit_clear(body: &Code, first: u32, code: &mut Vec<u32>) -> Result<(), AllocError>
+    ensures { Appends code.old.items code.new.items (clear_code (cleared_in body.now) (length body.now.locals.items) first) result }
+{
+    for i in 0..body.locals.len() {
+        let cleared = is_cleared(body, u64::from(first) + i as u64);
+        emit_clear_one(cleared, first, i as u64, code)?;
     }
     Ok(())
 }
@@ -277,51 +309,52 @@ fn emit_kept_behind(access: Access, calling: bool, code: &mut Vec<u32>) -> Resul
 // Appends the begin of a function that has a frame.
 fn emit_frame_entry(
     scene: &Scene<'_>,
+    body: &Code,
     params: u32,
     words: u64,
     calling: bool,
     code: &mut Vec<u32>,
 ) -> Result<(), AllocError>
     requires { 3 + params + words < 2 ^ 64 }
-    ensures { Appends code.old.items code.new.items (frame_entry (scope_in scene.now) params words calling) result }
+    ensures { Appends code.old.items code.new.items (frame_entry (scope_in scene.now) (cleared_in body.now) params words calling) result }
 {
     emit_stack_test(scene, FRAME_END, code)?;
     emit_kept(scene, Access::Store, calling, code)?;
     emit_params(scene, params, code)?;
-    emit_locals(scene, words, 3 + u64::from(params), code)
+    emit_locals(scene, body, words, u64::from(params), code)
 }
 
 // Appends the begin of a function whose variables stand in registers.
 fn emit_register_entry(
     scene: &Scene<'_>,
     params: u32,
-    locals: usize,
+    body: &Code,
     calling: bool,
     code: &mut Vec<u32>,
 ) -> Result<(), AllocError>
-    ensures { Appends code.old.items code.new.items (register_entry (scope_in scene.now) params locals calling) result }
+    ensures { Appends code.old.items code.new.items (register_entry (scope_in scene.now) (cleared_in body.now) params (length body.now.locals.items) calling) result }
 {
     emit_stack_test(scene, SCRATCH, code)?;
     emit_kept_behind(Access::Store, calling, code)?;
-    emit_clear(locals, params, code)
+    emit_clear(body, params, code)
 }
 
 /// Appends the begin of a function that has statements; `calling` tells whether they change the return register.
 pub fn emit_entry(
     scene: &Scene<'_>,
     params: u32,
-    locals: &[Decl],
+    body: &Code,
     calling: bool,
     code: &mut Vec<u32>,
 ) -> Result<(), AllocError>
-    requires { HasFrame (scope_in scene.now) params (map decl_view locals.now) }
-    ensures { Appends code.old.items code.new.items (entry_code (scope_in scene.now) params (map decl_view locals.now) calling) result }
+    requires { HasFrame (scope_in scene.now) params (map decl_view body.now.locals.items) }
+    ensures { Appends code.old.items code.new.items (entry_code (scope_in scene.now) (cleared_in body.now) params (map decl_view body.now.locals.items) calling) result }
 {
     if scene.in_registers {
-        return emit_register_entry(scene, params, locals.len(), calling, code);
+        return emit_register_entry(scene, params, body, calling, code);
     }
     let words = scene.frame - 3 - u64::from(params);
-    emit_frame_entry(scene, params, words, calling, code)
+    emit_frame_entry(scene, body, params, words, calling, code)
 }
 
 // Appends the return from a function that has a frame.

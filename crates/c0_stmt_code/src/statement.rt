@@ -1,7 +1,7 @@
 // The code of statements. Where memory is wanting, a part of it may stand behind what stood before.
 
 ghost use Rattle.std.specs.Prelude.{◌≡◌, ◌+◌, ◌^◌, ◌<◌};
-ghost use Rattle.masm.specs.Places.{ArePlaces};
+ghost use Rattle.masm.specs.CodeAddresses.{AreCodeAddresses};
 ghost use Rattle.c0_tree.specs.View.{expr_view, stmt_view, stmts_view};
 ghost use Rattle.c0_expr_code.specs.Emit.{Appends};
 ghost use Rattle.c0_expr_code.specs.Scene.{scope_in};
@@ -13,7 +13,7 @@ use crate::acts::{emit_assign, emit_call, emit_new};
 use c0_expr_code::laws::{jumps_are_within, patches_aim};
 use c0_expr_code::{Scene, emit, emit_test, patch, patch_all};
 use c0_tree::{Expr, Stmt};
-use masm::registers::{EXPRESSIONS, Places};
+use masm::registers::{CodeAddresses, EXPRESSIONS};
 use mips_table::Inst;
 use std::alloc::{AllocError, Global};
 
@@ -22,13 +22,13 @@ use std::alloc::{AllocError, Global};
 fn emit_statement(
     alloc: Global,
     scene: &Scene<'_>,
-    places: &Places,
+    addresses: &CodeAddresses,
     stmt: &Stmt,
     code: &mut Vec<u32>,
 ) -> Result<(), AllocError>
-    requires places { ArePlaces places.now }
+    requires addresses { AreCodeAddresses addresses.now }
     requires stmt { IsEmittable (scope_in scene.now).env (stmt_view stmt.now) }
-    ensures { Appends code.old.items code.new.items (stmt_code (scope_in scene.now) (links_of places.now) (stmt_view stmt.now)) result }
+    ensures { Appends code.old.items code.new.items (stmt_code (scope_in scene.now) (links_of addresses.now) (stmt_view stmt.now)) result }
 {
     match stmt {
         Stmt::Assign { place, value, .. } => emit_assign(scene, place, value, code),
@@ -39,16 +39,16 @@ fn emit_statement(
             ..
         } => emit_call(
             scene,
-            places,
+            addresses,
             function.kind,
             function.number,
             args,
             place,
             code,
         ),
-        Stmt::New { place, ty, .. } => emit_new(scene, places, ty, place, code),
-        Stmt::If { test, yes, no, .. } => emit_if(alloc, scene, places, test, yes, no, code),
-        Stmt::While { test, body, .. } => emit_while(alloc, scene, places, test, body, code),
+        Stmt::New { place, ty, .. } => emit_new(scene, addresses, ty, place, code),
+        Stmt::If { test, yes, no, .. } => emit_if(alloc, scene, addresses, test, yes, no, code),
+        Stmt::While { test, body, .. } => emit_while(alloc, scene, addresses, test, body, code),
     }
 }
 
@@ -57,16 +57,16 @@ fn emit_statement(
 pub fn emit_statements(
     alloc: Global,
     scene: &Scene<'_>,
-    places: &Places,
+    addresses: &CodeAddresses,
     stmts: &[Stmt],
     code: &mut Vec<u32>,
 ) -> Result<(), AllocError>
-    requires places { ArePlaces places.now }
+    requires addresses { AreCodeAddresses addresses.now }
     requires stmts { AreEmittable (scope_in scene.now).env (stmts_view stmts.now) }
-    ensures { Appends code.old.items code.new.items (stmts_at scene.now places.now stmts.now) result }
+    ensures { Appends code.old.items code.new.items (stmts_at scene.now addresses.now stmts.now) result }
 {
     for stmt in stmts {
-        emit_statement(alloc, scene, places, stmt, code)?;
+        emit_statement(alloc, scene, addresses, stmt, code)?;
     }
     Ok(())
 }
@@ -76,13 +76,13 @@ pub fn emit_statements(
 fn emit_skipped(
     alloc: Global,
     scene: &Scene<'_>,
-    places: &Places,
+    addresses: &CodeAddresses,
     stmts: &[Stmt],
     code: &mut Vec<u32>,
 ) -> Result<(), AllocError>
-    requires places { ArePlaces places.now }
+    requires addresses { AreCodeAddresses addresses.now }
     requires stmts { AreEmittable (scope_in scene.now).env (stmts_view stmts.now) }
-    ensures { Appends code.old.items code.new.items (skipped_code (stmts_at scene.now places.now stmts.now)) result }
+    ensures { Appends code.old.items code.new.items (skipped_code (stmts_at scene.now addresses.now stmts.now)) result }
 {
     let at = code.len();
     emit(
@@ -93,7 +93,7 @@ fn emit_skipped(
             imm: 0,
         },
     )?;
-    emit_statements(alloc, scene, places, stmts, code)?;
+    emit_statements(alloc, scene, addresses, stmts, code)?;
     let end = code.len();
     patch(code, at, end);
     Ok(())
@@ -104,18 +104,18 @@ fn emit_skipped(
 fn emit_otherwise(
     alloc: Global,
     scene: &Scene<'_>,
-    places: &Places,
+    addresses: &CodeAddresses,
     no: &[Stmt],
     code: &mut Vec<u32>,
 ) -> Result<(), AllocError>
-    requires places { ArePlaces places.now }
+    requires addresses { AreCodeAddresses addresses.now }
     requires no { AreEmittable (scope_in scene.now).env (stmts_view no.now) }
-    ensures { Appends code.old.items code.new.items (otherwise_in scene.now places.now no.now) result }
+    ensures { Appends code.old.items code.new.items (otherwise_in scene.now addresses.now no.now) result }
 {
     if no.is_empty() {
         return Ok(());
     }
-    emit_skipped(alloc, scene, places, no, code)
+    emit_skipped(alloc, scene, addresses, no, code)
 }
 
 // Where the other branch of an `if` begins whose first branch ends at a word: behind the jump over it, where there is another branch.
@@ -131,25 +131,25 @@ fn behind_jump(no: &[Stmt], end: usize) -> usize
 fn emit_if(
     alloc: Global,
     scene: &Scene<'_>,
-    places: &Places,
+    addresses: &CodeAddresses,
     test: &Expr,
     yes: &[Stmt],
     no: &[Stmt],
     code: &mut Vec<u32>,
 ) -> Result<(), AllocError>
-    requires places { ArePlaces places.now }
+    requires addresses { AreCodeAddresses addresses.now }
     requires test { CanStand (scope_in scene.now).env 12 (expr_view test.now) }
     requires yes { AreEmittable (scope_in scene.now).env (stmts_view yes.now) }
     requires no { AreEmittable (scope_in scene.now).env (stmts_view no.now) }
-    ensures { Appends code.old.items code.new.items (choice_in scene.now places.now test.now yes.now no.now) result }
+    ensures { Appends code.old.items code.new.items (choice_in scene.now addresses.now test.now yes.now no.now) result }
 {
     patches_aim();
     jumps_are_within();
     let mut jumps = Vec::new(alloc);
     emit_test(alloc, scene, test, false, EXPRESSIONS, code, &mut jumps)?;
-    emit_statements(alloc, scene, places, yes, code)?;
+    emit_statements(alloc, scene, addresses, yes, code)?;
     let end = code.len();
-    emit_otherwise(alloc, scene, places, no, code)?;
+    emit_otherwise(alloc, scene, addresses, no, code)?;
     let to = behind_jump(no, end);
     patch_all(code, &jumps, to);
     Ok(())
@@ -160,20 +160,20 @@ fn emit_if(
 fn emit_while(
     alloc: Global,
     scene: &Scene<'_>,
-    places: &Places,
+    addresses: &CodeAddresses,
     test: &Expr,
     body: &[Stmt],
     code: &mut Vec<u32>,
 ) -> Result<(), AllocError>
-    requires places { ArePlaces places.now }
+    requires addresses { AreCodeAddresses addresses.now }
     requires test { CanStand (scope_in scene.now).env 12 (expr_view test.now) }
     requires body { AreEmittable (scope_in scene.now).env (stmts_view body.now) }
-    ensures { Appends code.old.items code.new.items (while_in scene.now places.now test.now body.now) result }
+    ensures { Appends code.old.items code.new.items (while_in scene.now addresses.now test.now body.now) result }
 {
     patches_aim();
     jumps_are_within();
     let start = code.len();
-    emit_skipped(alloc, scene, places, body, code)?;
+    emit_skipped(alloc, scene, addresses, body, code)?;
     let end = code.len();
     let mut jumps = Vec::new(alloc);
     emit_test(alloc, scene, test, true, EXPRESSIONS, code, &mut jumps)?;

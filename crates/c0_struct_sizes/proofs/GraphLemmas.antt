@@ -4,7 +4,7 @@ use Rattle.std.proofs.Math.ListN.{set, length-set}
 use Rattle.std.proofs.Math.Seq.{take-length}
 use Rattle.std.proofs.lemmas.Bool.{cases_lt}
 use Rattle.std.proofs.lemmas.List.{take_more, get_or-set_same, get_or-set_other, get_or-replicate, get_or_past, length-replicate}
-use Rattle.c0_struct_sizes.specs.Graph.{IsIn, Leads, by_edge, by_way, Reaches, edges_in, AreInside, IsOrder, IsOrderOf}
+use Rattle.c0_struct_sizes.specs.Graph.{IsIn, Leads, by_edge, by_way, EdgesLead, edges_in, AreInside, IsOrder, IsOrderOf}
 use Rattle.c0_struct_sizes.specs.Walk.{set_all}
 
 pub equal : (m n : ℕ) → ((m ≡ n) ⊎ (m ≢ n))
@@ -101,10 +101,10 @@ module _ (edges : ℕ → List ℕ) where
   leads_on (by_edge h) k = by_way h k
   leads_on (by_way h rest) k = by_way h (leads_on rest k)
 
-  pub reaches_leads : (a b c : ℕ) → Reaches edges a b → Leads edges b c → Leads edges a c
+  pub reaches_leads : (a b c : ℕ) → EdgesLead edges a b → Leads edges b c → Leads edges a c
   reaches_leads a b c h k = elim h [ inl e ↦ subst (λ (x : ℕ). Leads edges x c) (sym e) k | inr l ↦ leads_on l k ]
 
-  pub leads_reaches : (a b c : ℕ) → Leads edges a b → Reaches edges b c → Leads edges a c
+  pub leads_reaches : (a b c : ℕ) → Leads edges a b → EdgesLead edges b c → Leads edges a c
   leads_reaches a b c k h = elim h [ inl e ↦ subst (λ (x : ℕ). Leads edges a x) e k | inr l ↦ leads_on k l ]
 
   pub leads_edge : (a b c : ℕ) → Leads edges a b → IsIn (edges b) c → Leads edges a c

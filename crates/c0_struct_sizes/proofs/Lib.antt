@@ -1,7 +1,7 @@
 pub mod GraphLemmas
-pub mod Steps
-pub mod Finishing
-pub mod Telling
-pub mod Moves
-pub mod Ends
-pub mod Told
+pub mod WalkInvariant
+pub mod GroupDone
+pub mod NumbersTellNames
+pub mod WalkMoves
+pub mod WalkEnds
+pub mod OrderTells

@@ -12,8 +12,8 @@ pub data Leads (edges : ℕ → List ℕ) : ℕ → ℕ → Type 0 where
   by_way : {v u w : ℕ} → IsIn (edges v) u → Leads edges u w → Leads edges v w
 
 -- edges lead from a number to another, or it is the other
-abbrev pub Reaches : (ℕ → List ℕ) → ℕ → ℕ → Type 0
-Reaches edges v w = (v ≡ w) ⊎ Leads edges v w
+abbrev pub EdgesLead : (ℕ → List ℕ) → ℕ → ℕ → Type 0
+EdgesLead edges v w = (v ≡ w) ⊎ Leads edges v w
 
 -- the edges of a number, where those of each are listed
 abbrev pub edges_in : List (List ℕ) → ℕ → List ℕ

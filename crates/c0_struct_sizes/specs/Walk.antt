@@ -6,7 +6,7 @@ use Rattle.c0_struct_sizes.specs.declared.walk.Mark.{Mark}
 use Rattle.c0_struct_sizes.specs.declared.walk.Mark.TheVariants.{Unseen, Open, Done}
 use Rattle.c0_struct_sizes.specs.declared.walk.Group.{Group}
 use Rattle.c0_struct_sizes.specs.declared.walk.Walk.{Walk}
-use Rattle.c0_struct_sizes.specs.Graph.{IsIn, Leads, Reaches, PartsFirst, edges_in}
+use Rattle.c0_struct_sizes.specs.Graph.{IsIn, Leads, EdgesLead, PartsFirst, edges_in}
 
 -- where a walk stands
 pub record WalkState : Type 0 where
@@ -18,8 +18,8 @@ pub record WalkState : Type 0 where
   pub listed : List ℕ
 
 -- where the walk stands that is kept so
-abbrev pub state_of : Walk → WalkState
-state_of w = record {
+abbrev pub walk_state : Walk → WalkState
+walk_state w = record {
   marks = w.marks.items;
   path = w.path.items;
   todo = w.todo.items;
@@ -63,10 +63,10 @@ pub record LeadsBack (edges : ℕ → List ℕ) (path : List ℕ) (groups : List
   pub group : ℕ
   pub among : group < length groups
   pub behind : (group_at groups group).path_start ≤ i
-  pub reaches : Reaches edges (node_at path i) (node_at path (group_at groups group).path_start)
+  pub reaches : EdgesLead edges (node_at path i) (node_at path (group_at groups group).path_start)
 
 -- the open numbers are those of the path, and each leads to all that stand behind it
-pub record IsPath (edges : ℕ → List ℕ) (count : ℕ) (marks : List Mark) (path : List ℕ) : Type 0 where
+pub record IsOpenPath (edges : ℕ → List ℕ) (count : ℕ) (marks : List Mark) (path : List ℕ) : Type 0 where
   pub opened : (i : ℕ) → i < length path → (node_at path i < count) × (mark_of marks (node_at path i) ≡ Open i)
   pub placed : (v q : ℕ) → mark_of marks v ≡ Open q → (q < length path) × (node_at path q ≡ v)
   pub leads : (i j : ℕ) → i < j → j < length path → Leads edges (node_at path i) (node_at path j)
@@ -94,7 +94,7 @@ pub record IsWalk (edges : ℕ → List ℕ) (count : ℕ) (s : WalkState) : Typ
   pub marks : length s.marks ≡ count
   pub flags : length s.turning ≡ count
   pub few : length s.listed + length s.path + unseen_work (λ v. 1) 0 s.marks ≤ count
-  pub path : IsPath edges count s.marks s.path
+  pub path : IsOpenPath edges count s.marks s.path
   pub done : AreDone edges s.marks s.turning s.listed
   pub groups : (k : ℕ) → k < length s.groups → IsGroup edges s.marks s.path s.todo (group_at s.groups k)
   pub order : (k l : ℕ) → k < l → l < length s.groups → IsBefore (group_at s.groups k) (group_at s.groups l)
@@ -119,12 +119,12 @@ set_all xs [] a = xs
 set_all xs (i ∷ is) a = set_all (set xs i a) is a
 
 -- the number of the last group
-abbrev pub last_of : WalkState → ℕ
-last_of s = length s.groups - 1
+abbrev pub last_group : WalkState → ℕ
+last_group s = length s.groups - 1
 
 -- where the last group starts on the path
 abbrev pub last_start : WalkState → ℕ
-last_start s = (group_at s.groups (last_of s)).path_start
+last_start s = (group_at s.groups (last_group s)).path_start
 
 -- the last group done: its numbers lead to themselves or not
 abbrev pub finished : Bool → WalkState → WalkState
@@ -132,7 +132,7 @@ finished turns s = record {
   marks = set_all s.marks (drop (last_start s) s.path) Done;
   path = take (last_start s) s.path;
   todo = s.todo;
-  groups = take (last_of s) s.groups;
+  groups = take (last_group s) s.groups;
   turning = set_all s.turning (drop (last_start s) s.path) turns;
   listed = s.listed ++ drop (last_start s) s.path;
 }
@@ -142,8 +142,8 @@ abbrev pub without_target : WalkState → WalkState
 without_target s = record s { todo = take (length s.todo - 1) s.todo }
 
 -- the last group made a part of the one before it
-abbrev pub joined : WalkState → WalkState
-joined s = record s { groups = take (last_of s) s.groups }
+abbrev pub merged : WalkState → WalkState
+merged s = record s { groups = take (last_group s) s.groups }
 
 -- the last number whose edge is left
 abbrev pub target_of : WalkState → ℕ
@@ -151,7 +151,7 @@ target_of s = get_or s.todo (length s.todo - 1) 0
 
 -- how many edges are left that aren't of the last group
 abbrev pub others_left : WalkState → ℕ
-others_left s = (group_at s.groups (last_of s)).todo_start
+others_left s = (group_at s.groups (last_group s)).todo_start
 
 -- how much is left of a walk
 abbrev pub work : (ℕ → List ℕ) → WalkState → ℕ

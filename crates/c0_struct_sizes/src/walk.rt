@@ -2,8 +2,8 @@
 
 ghost use Rattle.std.specs.Prelude.{◌≡◌, ◌<◌, ◌≤◌, ◌+◌, ◌^◌, ◌↔◌, OnOk, IfOk, IsTrue, All, length, map};
 ghost use Rattle.c0_struct_sizes.specs.Graph.{AreInside, IsIn, IsOrderOf, Leads, edges_in};
-ghost use Rattle.c0_struct_sizes.specs.Walk.{WalkGoesOn, IsWalkOver, finished, walk_start, numbers_below, joined, last_start, start_node};
-ghost use Rattle.c0_struct_sizes.specs.Walk.{mark_of, met, others_left, set_all, state_of, target_of, without_target};
+ghost use Rattle.c0_struct_sizes.specs.Walk.{WalkGoesOn, IsWalkOver, finished, walk_start, numbers_below, merged, last_start, start_node};
+ghost use Rattle.c0_struct_sizes.specs.Walk.{mark_of, met, others_left, set_all, walk_state, target_of, without_target};
 ghost use Rattle.c0_struct_sizes.specs.declared.walk.Mark.TheVariants.{Open, Done};
 
 use std::alloc::{AllocError, Global};
@@ -97,7 +97,7 @@ impl Walk {
 
     // How many edges are left that aren't of the last group.
     fn others_left(&self) -> usize
-        ensures { result ≡ others_left (state_of self.now) }
+        ensures { result ≡ others_left (walk_state self.now) }
     {
         match self.groups.last() {
             None => 0,
@@ -108,7 +108,7 @@ impl Walk {
     // Where the last group starts on the path.
     fn last_start(&self) -> usize
         requires { 0 < length self.now.groups.items }
-        ensures { result ≡ last_start (state_of self.now) }
+        ensures { result ≡ last_start (walk_state self.now) }
     {
         self.groups[self.groups.len() - 1].path_start
     }
@@ -117,7 +117,7 @@ impl Walk {
     fn meet(&mut self, graph: &[Vec<u32>], node: u32) -> Result<(), AllocError>
         requires marked { node < length self.old.marks.items }
         requires there { node < length graph.now }
-        ensures { OnOk result (state_of self.new ≡ met (edges_in (map (λ x. x.items) graph.now)) node (state_of self.old)) }
+        ensures { OnOk result (walk_state self.new ≡ met (edges_in (map (λ x. x.items) graph.now)) node (walk_state self.old)) }
     {
         let group = Group {
             path_start: self.path.len(),
@@ -132,7 +132,7 @@ impl Walk {
     // Takes off the last edge that is left.
     fn leave_target(&mut self)
         requires { 0 < length self.old.todo.items }
-        ensures { state_of self.new ≡ without_target (state_of self.old) }
+        ensures { walk_state self.new ≡ without_target (walk_state self.old) }
     {
         self.todo.truncate(self.todo.len() - 1);
     }
@@ -140,7 +140,7 @@ impl Walk {
     // Makes the last group a part of the one before it.
     fn join_groups(&mut self)
         requires { 0 < length self.old.groups.items }
-        ensures { state_of self.new ≡ joined (state_of self.old) }
+        ensures { walk_state self.new ≡ merged (walk_state self.old) }
     {
         self.groups.truncate(self.groups.len() - 1);
     }
@@ -150,8 +150,8 @@ impl Walk {
         requires grouped { 0 < length self.old.groups.items }
         requires marked { All (λ v. v < length self.old.marks.items) self.old.path.items }
         requires flagged { All (λ v. v < length self.old.turning.items) self.old.path.items }
-        requires started { last_start (state_of self.old) ≤ length self.old.path.items }
-        ensures { OnOk result (state_of self.new ≡ finished turns (state_of self.old)) }
+        requires started { last_start (walk_state self.old) ≤ length self.old.path.items }
+        ensures { OnOk result (walk_state self.new ≡ finished turns (walk_state self.old)) }
     {
         let start = self.last_start();
         mark_all(
@@ -169,18 +169,18 @@ impl Walk {
     // The first node of the last group.
     fn start_node(&self) -> u32
         requires grouped { 0 < length self.now.groups.items }
-        requires started { last_start (state_of self.now) < length self.now.path.items }
-        ensures { result ≡ start_node (state_of self.now) }
+        requires started { last_start (walk_state self.now) < length self.now.path.items }
+        ensures { result ≡ start_node (walk_state self.now) }
     {
         self.path[self.last_start()]
     }
 
     // Whether the nodes of the last group lead to themselves: there are several, or the one has an edge to itself.
     fn is_turning(&self, graph: &[Vec<u32>]) -> bool
-        requires walk { IsWalkOver (map (λ x. x.items) graph.now) (state_of self.now) }
+        requires walk { IsWalkOver (map (λ x. x.items) graph.now) (walk_state self.now) }
         requires grouped { 0 < length self.now.groups.items }
-        requires followed { length self.now.todo.items ≤ others_left (state_of self.now) }
-        ensures { IsTrue result ↔ Leads (edges_in (map (λ x. x.items) graph.now)) (start_node (state_of self.now)) (start_node (state_of self.now)) }
+        requires followed { length self.now.todo.items ≤ others_left (walk_state self.now) }
+        ensures { IsTrue result ↔ Leads (edges_in (map (λ x. x.items) graph.now)) (start_node (walk_state self.now)) (start_node (walk_state self.now)) }
     {
         if self.path.len() - self.last_start() > 1 {
             return true;
@@ -192,7 +192,7 @@ impl Walk {
     // The node to which the last edge that is left leads.
     fn target(&self) -> u32
         requires { 0 < length self.now.todo.items }
-        ensures { result ≡ target_of (state_of self.now) }
+        ensures { result ≡ target_of (walk_state self.now) }
     {
         self.todo[self.todo.len() - 1]
     }
@@ -207,11 +207,11 @@ impl Walk {
 
     // The last group, of which no edge is left, is done.
     fn complete(&mut self, graph: &[Vec<u32>]) -> Result<(), AllocError>
-        requires walk { IsWalkOver (map (λ x. x.items) graph.now) (state_of self.old) }
+        requires walk { IsWalkOver (map (λ x. x.items) graph.now) (walk_state self.old) }
         requires grouped { 0 < length self.old.groups.items }
-        requires followed { length self.old.todo.items ≤ others_left (state_of self.old) }
-        ensures walk { OnOk result (IsWalkOver (map (λ x. x.items) graph.now) (state_of self.new)) }
-        ensures falls { OnOk result (WalkGoesOn (map (λ x. x.items) graph.now) (state_of self.old) (state_of self.new)) }
+        requires followed { length self.old.todo.items ≤ others_left (walk_state self.old) }
+        ensures walk { OnOk result (IsWalkOver (map (λ x. x.items) graph.now) (walk_state self.new)) }
+        ensures falls { OnOk result (WalkGoesOn (map (λ x. x.items) graph.now) (walk_state self.old) (walk_state self.new)) }
     {
         let turns = self.is_turning(graph);
         self.finish(turns)?;
@@ -220,11 +220,11 @@ impl Walk {
 
     // The last edge that is left leads to a node at this place of the path: all that stand there and behind lead to themselves.
     fn turn_back(&mut self, graph: &[Vec<u32>], place: usize)
-        requires walk { IsWalkOver (map (λ x. x.items) graph.now) (state_of self.old) }
-        requires left { others_left (state_of self.old) < length self.old.todo.items }
-        requires placed { mark_of self.old.marks.items (target_of (state_of self.old)) ≡ Open place }
-        ensures walk { IsWalkOver (map (λ x. x.items) graph.now) (state_of self.new) }
-        ensures falls { WalkGoesOn (map (λ x. x.items) graph.now) (state_of self.old) (state_of self.new) }
+        requires walk { IsWalkOver (map (λ x. x.items) graph.now) (walk_state self.old) }
+        requires left { others_left (walk_state self.old) < length self.old.todo.items }
+        requires placed { mark_of self.old.marks.items (target_of (walk_state self.old)) ≡ Open place }
+        ensures walk { IsWalkOver (map (λ x. x.items) graph.now) (walk_state self.new) }
+        ensures falls { WalkGoesOn (map (λ x. x.items) graph.now) (walk_state self.old) (walk_state self.new) }
     {
         if place < self.last_start() {
             self.join_groups();
@@ -236,10 +236,10 @@ impl Walk {
     // Follows the last edge that is left.
     fn follow(&mut self, graph: &[Vec<u32>]) -> Result<(), AllocError>
         requires inside { AreInside (map (λ x. x.items) graph.now) }
-        requires walk { IsWalkOver (map (λ x. x.items) graph.now) (state_of self.old) }
-        requires left { others_left (state_of self.old) < length self.old.todo.items }
-        ensures walk { OnOk result (IsWalkOver (map (λ x. x.items) graph.now) (state_of self.new)) }
-        ensures falls { OnOk result (WalkGoesOn (map (λ x. x.items) graph.now) (state_of self.old) (state_of self.new)) }
+        requires walk { IsWalkOver (map (λ x. x.items) graph.now) (walk_state self.old) }
+        requires left { others_left (walk_state self.old) < length self.old.todo.items }
+        ensures walk { OnOk result (IsWalkOver (map (λ x. x.items) graph.now) (walk_state self.new)) }
+        ensures falls { OnOk result (WalkGoesOn (map (λ x. x.items) graph.now) (walk_state self.old) (walk_state self.new)) }
     {
         let target = self.target();
         match self.mark(target) {
@@ -253,10 +253,10 @@ impl Walk {
     // Follows an edge that is left of the last group, or completes the group.
     fn step(&mut self, graph: &[Vec<u32>]) -> Result<(), AllocError>
         requires inside { AreInside (map (λ x. x.items) graph.now) }
-        requires walk { IsWalkOver (map (λ x. x.items) graph.now) (state_of self.old) }
+        requires walk { IsWalkOver (map (λ x. x.items) graph.now) (walk_state self.old) }
         requires under_way { 0 < length self.old.todo.items + length self.old.groups.items }
-        ensures walk { OnOk result (IsWalkOver (map (λ x. x.items) graph.now) (state_of self.new)) }
-        ensures falls { OnOk result (WalkGoesOn (map (λ x. x.items) graph.now) (state_of self.old) (state_of self.new)) }
+        ensures walk { OnOk result (IsWalkOver (map (λ x. x.items) graph.now) (walk_state self.new)) }
+        ensures falls { OnOk result (WalkGoesOn (map (λ x. x.items) graph.now) (walk_state self.old) (walk_state self.new)) }
     {
         if self.others_left() < self.todo.len() {
             self.follow(graph)?;
@@ -280,7 +280,7 @@ fn all_nodes(alloc: Global, count: u32) -> Result<Vec<u32>, AllocError>
 
 // Where a walk over so many nodes begins: each is left to be met.
 fn first_walk(alloc: Global, count: u32) -> Result<Walk, AllocError>
-    ensures { IfOk result (λ w. state_of w ≡ walk_start count) }
+    ensures { IfOk result (λ w. walk_state w ≡ walk_start count) }
 {
     let mut walk = Walk {
         marks: Vec::new(alloc),

@@ -1,7 +1,7 @@
-pub mod Runs
+pub mod BlanksAndDigits
 pub mod Spelt
 pub mod TokensShorten
-pub mod Steps
-pub mod Ends
-pub mod Longest
+pub mod NextTokens
+pub mod TokensEnd
+pub mod LongestMark
 pub mod TokensAreSmall

@@ -5,8 +5,8 @@ use Rattle.std.specs.List.{starts_with}
 use Rattle.std.proofs.lemmas.Bool.{leb-true}
 use Rattle.c0_tokens.specs.declared.token.TokenFault.TheVariants.{BadByte, BadNumber, TooNested}
 use Rattle.c0_tokens.specs.Tokens.{CLexeme, name, number, asm_text, fixed, faulty, end, CToken}
-use Rattle.c0_tokens.specs.Spelling.{Spelling, words, marks}
-use Rattle.c0_tokens.specs.Lexis.{Cut, longest_token, word_lexeme, number_lexeme, word_cut, number_cut, mark_cut, asm_cut, digits_value, has_leading_zero, next_text, is_asm_word, is_last, is_letter, is_digit, is_word_byte, tokens_within}
+use Rattle.c0_tokens.specs.Spelling.{Spelling, reserved_words, marks}
+use Rattle.c0_tokens.specs.Lexis.{Cut, longest_token, word_lexeme, number_lexeme, word_cut, number_cut, mark_cut, asm_cut, digits_value, has_leading_zero, text_from_token, is_asm_word, is_last, is_letter, is_digit, is_word_byte, tokens_within}
 use Rattle.c0_tokens.specs.Nesting.{Depth, outside, depth_after, at_depth, is_too_nested, nested, tokens_of}
 use Rattle.c0_tokens.specs.Order.{NumberFits, NumbersFit}
 use Rattle.c0_tokens.proofs.TokensShorten.{next_cut}
@@ -30,7 +30,7 @@ word_or_name (Some s) text = tt
 
 word_small : (text : List ℕ) → NumberFits (word_lexeme text)
 unfolding word_lexeme
-word_small text = word_or_name (find (λ s. bytes_eq s.0 text) words) text
+word_small text = word_or_name (find (λ s. bytes_eq s.0 text) reserved_words) text
 
 mark_or_bad : (o : Option Spelling) (text : List ℕ) → NumberFits (unwrap_or {T = Cut} (option_map (λ s. record { lexeme = fixed s.1; rest = drop (length s.0) text }) o) (record { lexeme = faulty BadByte; rest = drop 1 text })).lexeme
 mark_or_bad None text = tt
@@ -79,7 +79,7 @@ within_small : (n size : ℕ) (after_asm : Bool) (text : List ℕ) → NumbersFi
 within_small zero size after_asm text = tt
 within_small (suc n) size after_asm text =
     let c = next_cut after_asm text in
-    (cut_small after_asm (next_text after_asm text), rest_small (is_last c.lexeme) (tokens_within n size (is_asm_word c.lexeme) c.rest) (within_small n size (is_asm_word c.lexeme) c.rest))
+    (cut_small after_asm (text_from_token after_asm text), rest_small (is_last c.lexeme) (tokens_within n size (is_asm_word c.lexeme) c.rest) (within_small n size (is_asm_word c.lexeme) c.rest))
 
 pub source_small : (source : List ℕ) → NumbersFit (tokens_of source)
 source_small source = nested_small outside (tokens_within (length source + 1) (length source) false source) (within_small (length source + 1) (length source) false source)

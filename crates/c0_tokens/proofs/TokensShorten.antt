@@ -8,7 +8,7 @@ use Rattle.std.proofs.lemmas.Bool.Decides.{nat_tests}
 use Rattle.c0_tokens.specs.Tokens.{CToken, fixed, faulty}
 use Rattle.c0_tokens.specs.declared.token.TokenFault.TheVariants.{BadByte}
 use Rattle.c0_tokens.specs.Spelling.{Spelling, marks}
-use Rattle.c0_tokens.specs.Lexis.{gap, Cut, longest_token, asm_cut, mark_cut, word_cut, number_cut, next_text, is_unclosed, is_asm_word, is_last, is_letter, is_digit, is_word_byte, is_close_brace, tokens_within}
+use Rattle.c0_tokens.specs.Lexis.{gap, Cut, longest_token, asm_cut, mark_cut, word_cut, number_cut, text_from_token, is_unclosed, is_asm_word, is_last, is_letter, is_digit, is_word_byte, is_close_brace, tokens_within}
 use Rattle.c0_tokens.proofs.Spelt.{mark_has_byte}
 
 -- a run whose first byte passes leaves less of the text
@@ -65,22 +65,22 @@ choose_within true x n h = omega arith
 choose_within false x n h = h
 
 -- what is left from the next token on is within the text
-pub next_within : (after_asm : Bool) (text : List ℕ) → length (next_text after_asm text) ≤ length text
+pub next_within : (after_asm : Bool) (text : List ℕ) → length (text_from_token after_asm text) ≤ length text
 next_within after_asm text =
     choose_within (after_asm && is_unclosed (drop (gap text) text)) (drop (gap text) text) (length text) (omega (arith, length-drop (gap text) text))
 
 -- the next token of a text
 abbrev pub next_cut : Bool → List ℕ → Cut
-next_cut after_asm text = longest_token after_asm (next_text after_asm text)
+next_cut after_asm text = longest_token after_asm (text_from_token after_asm text)
 
 -- what is left after a token that isn't the last is shorter
 pub next_shorter : (after_asm : Bool) (text : List ℕ) → is_last (next_cut after_asm text).lexeme ≡ false → length (next_cut after_asm text).rest < length text
-next_shorter after_asm text more = omega (arith, left_shorter after_asm (next_text after_asm text) more, next_within after_asm text)
+next_shorter after_asm text more = omega (arith, left_shorter after_asm (text_from_token after_asm text) more, next_within after_asm text)
 
 -- the token that comes next, where it stands in a source of so many bytes
 abbrev pub next_token : ℕ → Bool → List ℕ → CToken
 next_token size after_asm text =
-    record { lexeme = (next_cut after_asm text).lexeme; start = size - length (next_text after_asm text); stop = size - length (next_cut after_asm text).rest }
+    record { lexeme = (next_cut after_asm text).lexeme; start = size - length (text_from_token after_asm text); stop = size - length (next_cut after_asm text).rest }
 
 -- two bounds allow the same tokens if they do after the first
 same_end : (n m size : ℕ) (after_asm : Bool) (text : List ℕ) (last : Bool) → is_last (next_cut after_asm text).lexeme ≡ last

@@ -4,7 +4,7 @@ use Rattle.std.specs.List.{starts_with, position_or_len, before_first, after_fir
 use Rattle.c0_tokens.specs.declared.token.Mark.TheVariants.{Asm}
 use Rattle.c0_tokens.specs.declared.token.TokenFault.TheVariants.{BadByte, BadNumber}
 use Rattle.c0_tokens.specs.Tokens.{CLexeme, name, number, asm_text, fixed, faulty, end, CToken}
-use Rattle.c0_tokens.specs.Spelling.{words, marks}
+use Rattle.c0_tokens.specs.Spelling.{reserved_words, marks}
 
 -- 0 to 9
 abbrev pub is_digit : ℕ → Bool
@@ -49,7 +49,7 @@ pub record Cut : Type 0 where
 
 -- a reserved word, or a name
 unfoldable pub word_lexeme : List ℕ → CLexeme
-word_lexeme text = unwrap_or (option_map (λ s. fixed s.1) (find (λ s. bytes_eq s.0 text) words)) (name text)
+word_lexeme text = unwrap_or (option_map (λ s. fixed s.1) (find (λ s. bytes_eq s.0 text) reserved_words)) (name text)
 
 -- the number that digits spell
 abbrev pub digits_value : List ℕ → ℕ
@@ -101,8 +101,8 @@ is_unclosed [] = false
 is_unclosed (a ∷ rest) = (a == 123) && (position_or_len is_close_brace rest == length rest)
 
 -- what is left from the next token on: without the blanks and comments before it, and nothing where an asm text isn't closed
-abbrev pub next_text : Bool → List ℕ → List ℕ
-next_text after_asm text = if after_asm && is_unclosed (drop (gap text) text) then [] else drop (gap text) text
+abbrev pub text_from_token : Bool → List ℕ → List ℕ
+text_from_token after_asm text = if after_asm && is_unclosed (drop (gap text) text) then [] else drop (gap text) text
 
 -- whether a token is the word asm
 abbrev pub is_asm_word : CLexeme → Bool
@@ -120,7 +120,7 @@ is_last _ = false
 abbrev pub tokens_within : ℕ → ℕ → Bool → List ℕ → List CToken
 tokens_within zero size after_asm text = []
 tokens_within (suc n) size after_asm text =
-    let here = next_text after_asm text in
+    let here = text_from_token after_asm text in
     let c = longest_token after_asm here in
     record { lexeme = c.lexeme; start = size - length here; stop = size - length c.rest }
     ∷ (if is_last c.lexeme then [] else tokens_within n size (is_asm_word c.lexeme) c.rest)

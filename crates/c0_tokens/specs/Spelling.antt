@@ -8,8 +8,8 @@ abbrev pub Spelling : Type 0
 Spelling = List ℕ × Mark
 
 -- the reserved words
-unfoldable pub words : List Spelling
-words =
+unfoldable pub reserved_words : List Spelling
+reserved_words =
     (codes "int", Int) ∷ (codes "bool", Bool) ∷ (codes "struct", Struct) ∷ (codes "if", If) ∷ (codes "else", Else)
     ∷ (codes "while", While) ∷ (codes "return", Return) ∷ (codes "new", New) ∷ (codes "true", True)
     ∷ (codes "false", False) ∷ (codes "null", Null) ∷ (codes "asm", Asm) ∷ []

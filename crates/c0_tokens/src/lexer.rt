@@ -4,7 +4,7 @@ ghost use Rattle.std.specs.List.{AllPass, prefix_len, position_or_len};
 ghost use Rattle.c0_tokens.specs.Lexis.{is_digit as is_digit_of, is_letter as is_letter_of, is_word_byte as is_word_byte_of, is_blank as is_blank_of};
 ghost use Rattle.c0_tokens.specs.Lexis.{is_close_brace, gap, digits_value as digits_value_of, number_lexeme as number_lexeme_of, word_lexeme as word_lexeme_of};
 ghost use Rattle.c0_tokens.specs.Lexis.{mark_cut as mark_cut_of, asm_cut as asm_cut_of, word_cut as word_cut_of, number_cut as number_cut_of, longest_token};
-ghost use Rattle.c0_tokens.specs.Lexis.{is_unclosed as is_unclosed_of, next_text as next_text_of, is_asm_word as is_asm_of, is_last as is_last_of};
+ghost use Rattle.c0_tokens.specs.Lexis.{is_unclosed as is_unclosed_of, text_from_token as next_text_of, is_asm_word as is_asm_of, is_last as is_last_of};
 ghost use Rattle.c0_tokens.specs.Nesting.{tokens_of};
 ghost use Rattle.c0_tokens.specs.Tokens.{lexeme_view, token_view};
 ghost use Rattle.c0_tokens.specs.View.{cut_view};

@@ -1,7 +1,7 @@
 // How the reserved words and the marks are written.
 ghost use Rattle.std.specs.Prelude.{◌≡◌, ◌==◌, find, map, bytes_eq, option_map};
 ghost use Rattle.std.specs.List.{starts_with};
-ghost use Rattle.c0_tokens.specs.Spelling.{words as all_words, marks as all_marks};
+ghost use Rattle.c0_tokens.specs.Spelling.{reserved_words as all_words, marks as all_marks};
 ghost use Rattle.c0_tokens.specs.View.{spelling_view};
 
 use crate::token::Mark;
@@ -23,7 +23,7 @@ macro_rules! spellings {
 }
 
 // The reserved words.
-#[tactic(auto, unfolding(crate::specs::Spelling::words))]
+#[tactic(auto, unfolding(crate::specs::Spelling::reserved_words))]
 fn words() -> [Spelling; 12]
     ensures { map spelling_view result ≡ all_words }
 {

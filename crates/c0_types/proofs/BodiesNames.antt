@@ -8,7 +8,7 @@ use Rattle.c0_meaning.specs.Fault.{Fault, fault, NAME_TWICE, kept_all}
 use Rattle.c0_meaning.specs.Names.{is_among, twice_faults, decl_name_faults}
 use Rattle.c0_name_check.specs.Names.{number_named}
 use Rattle.c0_name_check.specs.Spaces.{twice_by, TwiceByTestIsTwice}
-use Rattle.c0_name_check.proofs.Meeting.{two_met}
+use Rattle.c0_name_check.proofs.FaultsMet.{two_met}
 
 module _ {A : Type 0} (name : A → List ℕ) (text : List ℕ) where
   -- the number of a name in two lists, one after the other

@@ -1,7 +1,7 @@
 -- Faults that are met one list after the other.
 use Rattle.std.proofs.Common.{◌≡◌, List, ◌++◌, Option}
 use Rattle.c0_meaning.specs.Fault.{Fault, kept_all}
-use Rattle.c0_name_check.proofs.Meeting.{two_met}
+use Rattle.c0_name_check.proofs.FaultsMet.{two_met}
 
 -- four lists
 pub four_met : (m m1 m2 m3 m4 : Option Fault) (fs gs hs is : List Fault)

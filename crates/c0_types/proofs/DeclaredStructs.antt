@@ -12,13 +12,13 @@ use Rattle.c0_meaning.specs.Env.{Shape, first_named}
 use Rattle.c0_meaning.specs.Resolved.{resolved_structs}
 use Rattle.c0_name_check.specs.Names.{number_named}
 use Rattle.c0_meaning.specs.Sizes.{WORDS_CAP}
-use Rattle.c0_types.specs.NumberedStruct.{numbered_struct}
+use Rattle.c0_types.specs.NumberedStruct.{resolved_struct}
 use Rattle.c0_types.proofs.DeclaredInPlace.{numbered}
 
 -- all are numbered
-pub structs_numbered : (shapes : List Shape) (k : ℕ) (ss : List CStruct) → numbered (numbered_struct shapes) k (length ss) ss ≡ resolved_structs shapes k ss
+pub structs_numbered : (shapes : List Shape) (k : ℕ) (ss : List CStruct) → numbered (resolved_struct shapes) k (length ss) ss ≡ resolved_structs shapes k ss
 structs_numbered shapes k [] = refl
-structs_numbered shapes k (s ∷ ss) = ap (◌∷◌ (numbered_struct shapes k s)) (structs_numbered shapes (suc k) ss)
+structs_numbered shapes k (s ∷ ss) = ap (◌∷◌ (resolved_struct shapes k s)) (structs_numbered shapes (suc k) ss)
 
 -- a name's number is found through a view of the list
 pub number_viewed : {A B : Type 0} (view : A → B) (name : B → List ℕ) (q : List ℕ) (k : ℕ) (xs : List A)

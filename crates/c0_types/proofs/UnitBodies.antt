@@ -10,7 +10,7 @@ use Rattle.c0_tree.specs.View.{body_view, function_view}
 use Rattle.c0_meaning.specs.Ty.{ty_of}
 use Rattle.c0_meaning.specs.Env.{Signature, signature_of, Env}
 use Rattle.c0_meaning.specs.Fault.{Fault, kept_all}
-use Rattle.c0_name_check.proofs.Meeting.{kept_all-append}
+use Rattle.c0_name_check.proofs.FaultsMet.{kept_all-append}
 use Rattle.c0_body_check.specs.Scope.{MapTells, signature_view}
 use Rattle.c0_body_check.proofs.InPlace.{done, rest, done-next, done-step, rest-next, map-set, map-get_or}
 use Rattle.c0_types.specs.declared.bodies.Declared.{Declared}

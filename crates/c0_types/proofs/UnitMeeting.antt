@@ -10,7 +10,7 @@ use Rattle.c0_meaning.specs.Env.{shape_of, typed_of, env_of}
 use Rattle.c0_meaning.specs.Fault.{Fault, kept_all, MeetingJoins, TOO_MANY_PARAMETERS, TOO_MANY_NODES, UNIT_TOO_LARGE, GLOBALS_TOO_LARGE}
 use Rattle.c0_meaning.specs.DeclaredTypes.{fault_if, type_faults, declared_faults, pass_fault, pass_faults}
 use Rattle.c0_meaning.specs.Names.{decl_name_faults, struct_name_faults, unit_name_faults, twice_faults, in_source_order}
-use Rattle.c0_meaning.specs.Limits.{max_parameters, whole, all_nodes, first_faults, MAX_FUNCTION_NODES, MAX_UNIT_NODES, MAX_GLOBAL_WORDS}
+use Rattle.c0_meaning.specs.Limits.{max_parameters, whole_span, all_nodes, first_faults, MAX_FUNCTION_NODES, MAX_UNIT_NODES, MAX_GLOBAL_WORDS}
 use Rattle.c0_meaning.specs.Unit.{faults_in, structs_faults, signature_faults, body_faults, functions_faults}
 use Rattle.c0_meaning.specs.Words.{all_words}
 use Rattle.c0_types.specs.Source.{read_body, read_function, read_unit, asm_fault, asm_faults, source_faults_as}
@@ -125,15 +125,15 @@ module _ (joins : MeetingJoins) where
 
   pub whole_unit : (program : Program) (u : CUnit)
       → Leaves (outer_faults (primitives_of program) u ++ (bodies_faults (env_of (primitives_of program) (read_unit u) []) u.functions
-      ++ (fault_if (nat_lt MAX_UNIT_NODES (all_nodes (map read_function u.functions))) UNIT_TOO_LARGE (whole u.length) ++ first_faults program (read_unit u)))) (source_faults_as program u)
+      ++ (fault_if (nat_lt MAX_UNIT_NODES (all_nodes (map read_function u.functions))) UNIT_TOO_LARGE (whole_span u.length) ++ first_faults program (read_unit u)))) (source_faults_as program u)
   whole_unit program u =
       let s : List Fault = struct_name_faults u.structs in
       let t : List Fault = structs_faults (map shape_of u.structs) u.structs in
-      let g : List Fault = fault_if (nat_lt MAX_GLOBAL_WORDS (all_words (map shape_of u.structs) (map typed_of u.globals))) GLOBALS_TOO_LARGE (whole u.length) in
+      let g : List Fault = fault_if (nat_lt MAX_GLOBAL_WORDS (all_words (map shape_of u.structs) (map typed_of u.globals))) GLOBALS_TOO_LARGE (whole_span u.length) in
       let l : List Fault = declared_faults (map shape_of u.structs) u.globals in
       let h : List Fault = headings_faults (map shape_of u.structs) u.functions in
       let b : List Fault = bodies_faults (env_of (primitives_of program) (read_unit u) []) u.functions in
-      let z : List Fault = fault_if (nat_lt MAX_UNIT_NODES (all_nodes (map read_function u.functions))) UNIT_TOO_LARGE (whole u.length) in
+      let z : List Fault = fault_if (nat_lt MAX_UNIT_NODES (all_nodes (map read_function u.functions))) UNIT_TOO_LARGE (whole_span u.length) in
       let d : List Fault = first_faults program (read_unit u) in
       subst (λ (names : List CName). Leaves (((s ++ t) ++ (twice_faults (map (λ p. p.name) (primitives_of program)) (in_source_order (map (λ d. d.name) u.globals) names) ++ (g ++ (l ++ h)))) ++ (b ++ (z ++ d))) (source_faults_as program u))
       (names_read u.functions)

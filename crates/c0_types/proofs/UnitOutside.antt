@@ -23,7 +23,7 @@ use Rattle.c0_name_check.specs.Structs.{KnowsStructs}
 use Rattle.c0_body_check.specs.Scope.{FieldsTell, primitive_signature_view, shape_view, signature_view, typed_view}
 use Rattle.c0_types.specs.declared.structs.KnownStructs.{KnownStructs}
 use Rattle.c0_types.specs.declared.space.UnitNames.{UnitNames}
-use Rattle.c0_types.specs.Known.{TellUnit, env_in}
+use Rattle.c0_types.specs.Known.{TellUnit, declarations_env}
 use Rattle.c0_types.specs.Parts.{headed_functions, is_plain_function}
 use Rattle.c0_types.specs.Source.{read_function, read_unit}
 use Rattle.c0_types.proofs.BodiesScope.{numbered_by_view, numbered_typed, typed_by_views}
@@ -128,7 +128,7 @@ pub env_outer : (table : List CPrimitive) (u : CUnit) (ss : List StructDef) (gs 
     → map decl_view gs ≡ resolved_decls (map shape_of u.structs) Global 0 u.globals
     → map function_view fs ≡ headed_functions (map shape_of u.structs) 0 u.functions
     → map primitive_view ps ≡ table
-    → env_in ss gs fs ps ≡ env_of table (read_unit u) []
+    → declarations_env ss gs fs ps ≡ env_of table (read_unit u) []
 env_outer table u ss gs fs ps es eg ef ep =
     let given : List Shape = map shape_of u.structs in
     let gs1 : List Typed = map typed_view gs in

@@ -11,7 +11,7 @@ use Rattle.c0_tree.specs.declared.primitive.Program.{Program}
 use Rattle.c0_tree.specs.Primitives.{CPrimitive, primitives_of}
 use Rattle.c0_tree.specs.Tree.{CBody, code, asm, CFunction, CUnit}
 use Rattle.c0_asm_text.specs.AsmText.{text_words}
-use Rattle.c0_asm_text.proofs.Steps.{words_allowed}
+use Rattle.c0_asm_text.proofs.LinesAllowed.{words_allowed}
 use Rattle.c0_meaning.specs.DeclaredTypes.{fault_if, type_faults, declared_faults, pass_fault, pass_faults}
 use Rattle.c0_meaning.specs.Env.{Shape, shape_of}
 use Rattle.c0_meaning.specs.Fault.{Fault, TOO_MANY_PARAMETERS}

@@ -18,7 +18,7 @@ use Rattle.c0_name_check.specs.declared.met.Fault.{Fault as MetFault}
 use Rattle.c0_name_check.specs.Met.{Meets}
 use Rattle.c0_types.specs.declared.bodies.Declared.{Declared}
 use Rattle.c0_types.specs.Known.{unit_env}
-use Rattle.c0_types.specs.NumberedStruct.{numbered_struct}
+use Rattle.c0_types.specs.NumberedStruct.{resolved_struct}
 use Rattle.c0_types.specs.Parts.{bodied, faults_of_body, inner_body, inner_faults, text_faults}
 
 -- the faults of a struct are met, where it is told rightly whether it holds itself
@@ -27,7 +27,7 @@ MeetsStruct old new told s structs = told ≡ holds structs s.name.bytes.items s
 
 -- the names of a struct of this number are resolved
 abbrev pub ResolvesStruct : ℕ → StructDef → StructDef → List Shape → Type 0
-ResolvesStruct number old new structs = struct_view new ≡ numbered_struct structs number (struct_view old)
+ResolvesStruct number old new structs = struct_view new ≡ resolved_struct structs number (struct_view old)
 
 -- the faults of the structs of a unit, those of their names first
 abbrev pub faults_of_structs : List CStruct → List Fault

@@ -12,8 +12,8 @@ use Rattle.c0_types.specs.declared.space.UnitNames.{UnitNames}
 use Rattle.c0_types.specs.declared.bodies.Declared.{Declared}
 
 -- the environment of a unit's declarations, without parameters and locals
-abbrev pub env_in : List StructDef → List Decl → List Function → List Primitive → Env
-env_in structs globals functions primitives = record {
+abbrev pub declarations_env : List StructDef → List Decl → List Function → List Primitive → Env
+declarations_env structs globals functions primitives = record {
   structs = map shape_view structs;
   globals = map typed_view globals;
   functions = map signature_view functions;
@@ -31,7 +31,7 @@ pub record TellUnit (known : KnownStructs) (names : UnitNames) (ss : List Struct
 
 -- the environment of what is declared, with these functions
 abbrev pub unit_env : Declared → List Function → Env
-unit_env d functions = env_in d.structs.now d.globals.now functions d.primitives.now
+unit_env d functions = declarations_env d.structs.now d.globals.now functions d.primitives.now
 
 -- what is declared tells the numbers of its names, with these functions
 abbrev pub KnowsUnit : Declared → List Function → Type 0

@@ -6,5 +6,5 @@ use Rattle.c0_meaning.specs.Env.{Shape}
 use Rattle.c0_meaning.specs.Resolved.{standing_for, resolved_decls}
 
 -- a struct of this number
-abbrev pub numbered_struct : List Shape → ℕ → CStruct → CStruct
-numbered_struct structs number s = record { name = standing_for Struct number s.name; fields = resolved_decls structs Field 0 s.fields }
+abbrev pub resolved_struct : List Shape → ℕ → CStruct → CStruct
+resolved_struct structs number s = record { name = standing_for Struct number s.name; fields = resolved_decls structs Field 0 s.fields }

@@ -9,7 +9,7 @@ use Rattle.c0_meaning.specs.Env.{Shape, Env, shape_of, typed_of}
 use Rattle.c0_meaning.specs.Fault.{Fault, TOO_MANY_PARAMETERS, TOO_MANY_NODES, GLOBALS_TOO_LARGE}
 use Rattle.c0_meaning.specs.DeclaredTypes.{fault_if, type_faults, declared_faults, pass_fault, pass_faults}
 use Rattle.c0_meaning.specs.Names.{decl_name_faults, struct_name_faults, unit_name_faults}
-use Rattle.c0_meaning.specs.Limits.{is_asm, locals_of, words_held, max_parameters, whole, MAX_FUNCTION_NODES, MAX_GLOBAL_WORDS}
+use Rattle.c0_meaning.specs.Limits.{is_asm, locals_of, words_held, max_parameters, whole_span, MAX_FUNCTION_NODES, MAX_GLOBAL_WORDS}
 use Rattle.c0_meaning.specs.Resolved.{standing_for, resolved_type, resolved_decls, resolved_structs}
 use Rattle.c0_meaning.specs.Unit.{faults_in, structs_faults, resolved_body}
 use Rattle.c0_meaning.specs.Words.{all_words}
@@ -52,7 +52,7 @@ abbrev pub outer_faults : List CPrimitive → CUnit → List Fault
 outer_faults primitives u =
     (struct_name_faults u.structs ++ structs_faults (map shape_of u.structs) u.structs)
     ++ (unit_name_faults primitives u.globals u.functions
-    ++ (fault_if (nat_lt MAX_GLOBAL_WORDS (all_words (map shape_of u.structs) (map typed_of u.globals))) GLOBALS_TOO_LARGE (whole u.length)
+    ++ (fault_if (nat_lt MAX_GLOBAL_WORDS (all_words (map shape_of u.structs) (map typed_of u.globals))) GLOBALS_TOO_LARGE (whole_span u.length)
     ++ (declared_faults (map shape_of u.structs) u.globals
     ++ headings_faults (map shape_of u.structs) u.functions)))
 

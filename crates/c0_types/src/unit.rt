@@ -159,7 +159,7 @@ fn check_outside(
 
 // The span of a whole source.
 fn whole(unit: &Unit) -> Span
-    ensures { result ≡ limits.whole unit.now.length }
+    ensures { result ≡ limits.whole_span unit.now.length }
 {
     Span {
         start: 0,

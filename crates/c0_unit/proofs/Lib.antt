@@ -1,5 +1,6 @@
-pub mod Declared
-pub mod Emitted
-pub mod Flat
-pub mod Standing
-pub mod UnitPlaces
+pub mod DeclaredWords
+pub mod OneFunctionMore
+pub mod FlatRun
+pub mod Ordered
+pub mod PartsStand
+pub mod UnitAddresses

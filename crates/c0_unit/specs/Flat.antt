@@ -1,6 +1,6 @@
 -- A user program's code on a flat machine: what holds it, how it is loaded, and that it runs as the program means.
 use Rattle.std.specs.Prelude.{◌≡◌, ℕ, ℤ, ◌+◌, ◌*◌, ◌/◌, ◌≤◌, List, [], ◌∷◌, Some, None, slice_get}
-use Rattle.mips_table.specs.declared.inst.Inst.TheVariants.{J, Jal}
+use Rattle.mips_table.specs.declared.inst.Inst.TheVariants.{Jal}
 use Rattle.mips_table.specs.Code.{Contents, Behind, CodeState, at_with, Program, on_flat, Sound, Steps}
 use Rattle.mips_table.specs.Simulation.{nothing_behind}
 use Rattle.layer_map.specs.Map.{layer_words, next_page, heap_used_at, heap_words_at, heap_first_at, stack_first_at, stack_limit_at, primitives_at, exits_at, leave_at}
@@ -9,7 +9,7 @@ use Rattle.c0_tree.specs.Primitives.{user_primitives}
 use Rattle.c0_tree.specs.Tree.{CUnit}
 use Rattle.c0_meaning.specs.Limits.{first_number}
 use Rattle.c0_meaning.specs.Operators.{KernelFault}
-use Rattle.c0_meaning.specs.Running.{Work, begin, act}
+use Rattle.c0_meaning.specs.Running.{Work, begin, work_step}
 use Rattle.c0_meaning.specs.Sound.{global_words}
 use Rattle.c0_meaning.specs.State.{first_state}
 use Rattle.c0_meaning.specs.Unit.{IsCheckedAs}
@@ -30,9 +30,9 @@ pub record Rooms : Type 0 where
   pub stack : ℕ
   pub stack_words : ℕ
 
--- where its data stand, and the word to which `main` returns
+-- where its data stand, and the word to which `main` returns: the last exit
 abbrev pub unit_data : CUnit → Rooms → UnitData
-unit_data u r = record { globals = next_page (layer_words + code_words u); heap = r.heap; stack = r.stack; back = layer_words + 5 }
+unit_data u r = record { globals = next_page (layer_words + code_words u); heap = r.heap; stack = r.stack; back = leave_at }
 
 -- A flat machine holds a program: its code stands from 0x10000 on, and alone calls words below; globals, heap and stack follow it, and may be written.
 pub record HoldsProgram (u : CUnit) (r : Rooms) (p : Program) : Type 0 where
@@ -63,28 +63,27 @@ abbrev pub setting : CUnit → Rooms → Setting (List ℤ) ℤ
 setting u r = record { unit = u; heap = r.heap_words; stack = r.stack_words; meaning = trap }
 
 -- where the run of `main` begins, with what its calls of `trap` will be answered
-abbrev pub started : CUnit → List ℤ → Configuration (List ℤ) ℤ
-started u answers = beginning (record (first_state u) { frames = [] }) answers
+abbrev pub main_start : CUnit → List ℤ → Configuration (List ℤ) ℤ
+main_start u answers = beginning (record (first_state u) { frames = [] }) answers
 
 -- THE RUN OF A PROGRAM'S CODE: within 5 steps it comes to `main`, and from there on each step of the meaning is a run of the code, of at most 30
--- steps a unit. A call of `trap` is made at the entry of primitive 0, and goes on wherever it comes back with its answer; `main` returns to a word
--- that leads to the last exit, and faults leave by their own.
+-- steps a unit. A call of `trap` is made at the entry of primitive 0, and goes on wherever it comes back with its answer; `main` returns to the last
+-- exit, and faults leave by their own.
 pub record FlatRun (u : CUnit) (r : Rooms) (p : Program) (c : Contents) (answers : List ℤ) : Type 0 where
   pub z : Setup (List ℤ) ℤ Outer
   pub world : z.w ≡ on_flat p
   pub table : z.table ≡ user_primitives
   pub meaning : z.p ≡ setting u r
-  pub trap_at : (links_of z.places).primitive 0 ≡ primitives_at
-  pub exits : (f : KernelFault) → exit_of z.places f ≡ exits_at + exit_number f
-  pub back : p.code z.a.back ≡ Some (J leave_at)
-  pub behind : layer_words ≤ z.a.back
+  pub trap_at : (links_of z.addresses).primitive 0 ≡ primitives_at
+  pub exits : (f : KernelFault) → exit_of z.addresses f ≡ exits_at + exit_number f
+  pub back : z.a.back ≡ leave_at
   pub steps : ℕ
   pub few : steps ≤ 5
   pub entered : CodeState
   pub run : Steps (on_flat p) steps (at_with layer_words c nothing_behind) entered
-  pub stands : Simulated (List ℤ) ℤ Outer z 0 (begin (first_number User u) empty ∷ []) (started u answers) entered
+  pub stands : Simulated (List ℤ) ℤ Outer z 0 (begin (first_number User u) empty ∷ []) (main_start u answers) entered
   pub follows : (debt : ℕ) (item : Work) (work : List Work) (h : Configuration (List ℤ) ℤ) (s : CodeState) → Simulated (List ℤ) ℤ Outer z debt (item ∷ work) h s
-      → StepIs (List ℤ) ℤ Outer z debt item h s (act z.p item work h)
+      → StepIs (List ℤ) ℤ Outer z debt item h s (work_step z.p item work h)
 
 -- on every flat machine that holds the program and is loaded with it
 abbrev pub RunsFlat : CUnit → Type 0

@@ -2,8 +2,8 @@
 use Rattle.std.specs.Prelude.{◌≡◌, ℕ, ◌+◌, ◌*◌, ◌/◌, ◌<◌, ◌≤◌, All, List, ◌++◌, length, Some, slice_get}
 use Rattle.mips_table.specs.declared.inst.Inst.{Inst}
 use Rattle.mips_table.specs.Encoding.{InRange}
-use Rattle.masm.specs.declared.registers.Places.{Places}
-use Rattle.masm.specs.Places.{ArePlaces}
+use Rattle.masm.specs.declared.registers.CodeAddresses.{CodeAddresses}
+use Rattle.masm.specs.CodeAddresses.{AreCodeAddresses}
 use Rattle.layer_map.specs.Map.{layer_words, primitives_at, exits_at}
 use Rattle.c0_tree.specs.declared.tree.Unit.{Unit as Source}
 use Rattle.c0_tree.specs.declared.primitive.Program.TheVariants.{User}
@@ -14,26 +14,26 @@ use Rattle.c0_meaning.specs.Limits.{all_nodes}
 use Rattle.c0_meaning.specs.Operators.{KernelFault}
 use Rattle.c0_meaning.specs.Unit.{IsCheckedAs, IsWellFormed}
 use Rattle.c0_runtime.specs.declared.runtime.TheConstants.{NEW_OBJECT, MULTIPLY, DIVIDE, REMAINDER}
-use Rattle.c0_runtime.specs.Code.{entry_code, new_code, multiply_code, divide_code, remainder_code, zero_exit}
+use Rattle.c0_runtime.specs.Code.{startup_code, new_routine, multiply_code, divide_code, remainder_code, zero_exit}
 use Rattle.c0_expr_code.specs.Scope.{exit_number, exit_of, scope_of}
 use Rattle.c0_stmt_code.specs.Code.{links_of, function_code}
 use Rattle.c0_unit.specs.Flat.{RunsFlat}
-use Rattle.c0_unit.specs.Code.{fault_exits, primitive_entries, routines_at, function_starts, code_words, globals_start, unit_code}
+use Rattle.c0_unit.specs.Code.{fault_exits, primitive_entries, functions_at, routines_at, function_starts, code_words, globals_start, unit_code}
 
--- the places of code in which functions begin at these addresses, and the globals at this one
-pub record ArePlacedAt (p : Places) (starts : List ℕ) (globals : ℕ) : Type 0 where
+-- the addresses of code in which functions have these addresses, the routines begin at this word, and the globals at this address
+pub record AreAddressesAt (p : CodeAddresses) (starts : List ℕ) (routines globals : ℕ) : Type 0 where
   pub globals_at : p.globals ≡ globals
   pub faults : p.faults ≡ fault_exits
-  pub multiply : p.multiply ≡ 4 * (routines_at + MULTIPLY)
-  pub divide : p.divide ≡ 4 * (routines_at + DIVIDE)
-  pub remainder : p.remainder ≡ 4 * (routines_at + REMAINDER)
-  pub new_object : p.new_object ≡ 4 * (routines_at + NEW_OBJECT)
+  pub multiply : p.multiply ≡ 4 * (routines + MULTIPLY)
+  pub divide : p.divide ≡ 4 * (routines + DIVIDE)
+  pub remainder : p.remainder ≡ 4 * (routines + REMAINDER)
+  pub new_object : p.new_object ≡ 4 * (routines + NEW_OBJECT)
   pub functions : p.functions.items ≡ starts
   pub primitives : p.primitives.items ≡ primitive_entries
 
--- the places of a unit
-abbrev pub ArePlacesOf : CUnit → Places → Type 0
-ArePlacesOf u p = ArePlacedAt p (function_starts u) (globals_start u)
+-- the addresses of a unit whose first function is that of this number
+abbrev pub AreAddressesOf : CUnit → (first : ℕ) → CodeAddresses → Type 0
+AreAddressesOf u first p = AreAddressesAt p (function_starts u first) (routines_at u) (globals_start u)
 
 -- code stands in a unit's code at a word of memory, behind the unit's first instruction
 pub record StandsIn (u : CUnit) (first at : ℕ) (code : List Inst) : Type 0 where
@@ -43,12 +43,13 @@ pub record StandsIn (u : CUnit) (first at : ℕ) (code : List Inst) : Type 0 whe
   pub from : at ≡ layer_words + length before
   pub behind : 1 ≤ length before
 
--- Where the parts of a unit's code stand, by its places: the entry first, the routines at their addresses, and the routine `new` and each function
--- where calls go. All of its instructions are in range.
-pub record UnitStands (u : CUnit) (first : ℕ) (p : Places) : Type 0 where
+-- Where the parts of a unit's code stand, by its addresses: the entry first, and its first function behind that; the routines at their addresses, and the
+-- routine `new` and each function where calls go. All of its instructions are in range.
+pub record UnitStands (u : CUnit) (first : ℕ) (p : CodeAddresses) : Type 0 where
   pub rest : List Inst
-  pub entry : unit_code u first ≡ entry_code p.globals (4 * (links_of p).function first) ++ rest
-  pub new_object : StandsIn u first (links_of p).new_object new_code
+  pub entry : unit_code u first ≡ startup_code p.globals ++ rest
+  pub begins : (f : CFunction) → slice_get u.functions first ≡ Some f → (links_of p).function first ≡ functions_at
+  pub new_object : StandsIn u first (links_of p).new_object new_routine
   pub multiply : StandsIn u first (p.multiply / 4) multiply_code
   pub divide : StandsIn u first (p.divide / 4) (divide_code (zero_exit p))
   pub remainder : StandsIn u first (p.remainder / 4) (remainder_code (zero_exit p))
@@ -59,16 +60,16 @@ pub record UnitStands (u : CUnit) (first : ℕ) (p : Places) : Type 0 where
   pub primitives : (n : ℕ) → n < 10 → (links_of p).primitive n ≡ primitives_at + n
   pub below : (n : ℕ) → (links_of p).primitive n < layer_words
 
--- a law: the code of a well-formed unit stands so, by the unit's places, whatever its first function is
+-- a law: the code of a well-formed unit stands so, by the unit's addresses, whatever its first function is
 abbrev pub UnitsStand : Type 0
-UnitsStand = (table : List CPrimitive) (u : CUnit) → IsWellFormed table u → (first : ℕ) (p : Places) → ArePlacesOf u p → UnitStands u first p
+UnitsStand = (table : List CPrimitive) (u : CUnit) → IsWellFormed table u → (first : ℕ) (p : CodeAddresses) → AreAddressesOf u first p → UnitStands u first p
 
--- a law: each well-formed tree has its places, whether it stands in memory or not; and so has each well-formed unit
-abbrev pub TreesHavePlaces : Type 0
-TreesHavePlaces = (table : List CPrimitive) (u : CUnit) → IsWellFormed table u → (p : Places) × ArePlacesOf u p × ArePlaces p
+-- a law: each well-formed tree has its addresses, whether it stands in memory or not; and so has each well-formed unit
+abbrev pub TreesHaveAddresses : Type 0
+TreesHaveAddresses = (table : List CPrimitive) (u : CUnit) → IsWellFormed table u → (first : ℕ) → (p : CodeAddresses) × AreAddressesOf u first p × AreCodeAddresses p
 
-abbrev pub UnitsHavePlaces : Type 0
-UnitsHavePlaces = (table : List CPrimitive) (s : Source) → IsWellFormed table (unit_view s) → (p : Places) × ArePlacesOf (unit_view s) p × ArePlaces p
+abbrev pub UnitsHaveAddresses : Type 0
+UnitsHaveAddresses = (table : List CPrimitive) (s : Source) → IsWellFormed table (unit_view s) → (first : ℕ) → (p : CodeAddresses) × AreAddressesOf (unit_view s) first p × AreCodeAddresses p
 
 -- A LAW: the code of each checked user program runs on a flat machine as the program means
 abbrev pub TreesRunFlat : Type 0

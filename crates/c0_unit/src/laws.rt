@@ -2,13 +2,13 @@
 
 ghost use Rattle.std.specs.Prelude.{ℤ, List};
 ghost use Rattle.c0_unit.specs.Flat.{Outer};
-ghost use Rattle.c0_unit.specs.Laws.{ProgramsRunFlat, TreesHavePlaces, TreesRunFlat, UnitsAreShort, UnitsHavePlaces, UnitsStand};
+ghost use Rattle.c0_unit.specs.Laws.{ProgramsRunFlat, TreesHaveAddresses, TreesRunFlat, UnitsAreShort, UnitsHaveAddresses, UnitsStand};
 
 use c0_expr_code::laws::areas_hold;
 use c0_meaning::laws::units_are_typed_or_faulty;
 use c0_meaning::run_laws::{first_states_are_typed, programs_have_a_main};
 use c0_runtime::laws::kernels_are_entered;
-use c0_stmt_code::laws::{Outside, steps_run, zeros_are_held};
+use c0_stmt_code::laws::{Surroundings, steps_run, zeros_are_held};
 use c0_stmt_code::sizes::{functions_are_in_range, functions_are_short, lengths_are_fixed};
 use mips_table::runs::code_runs_join;
 
@@ -19,7 +19,7 @@ pub fn units_are_short()
     functions_are_short();
 }
 
-/// A well-formed unit's code has its parts where its places say, whatever its first function is, and its instructions are in range.
+/// A well-formed unit's code has its parts where its addresses say, whatever its first function is, and its instructions are in range.
 pub fn units_stand()
     ensures { UnitsStand }
 {
@@ -29,25 +29,25 @@ pub fn units_stand()
     functions_are_in_range();
 }
 
-/// A well-formed tree has its places.
-pub fn trees_have_places()
-    ensures { TreesHavePlaces }
+/// A well-formed tree has its addresses.
+pub fn trees_have_addresses()
+    ensures { TreesHaveAddresses }
 {
     units_are_typed_or_faulty();
     functions_are_short();
 }
 
 /// So has a well-formed unit.
-pub fn units_have_places()
-    ensures { UnitsHavePlaces }
+pub fn units_have_addresses()
+    ensures { UnitsHaveAddresses }
 {
-    trees_have_places();
+    trees_have_addresses();
 }
 
 /// The machine under a user program's code: nothing of it stands for the answers that are left.
 struct FlatMachine;
 
-impl Outside for FlatMachine {
+impl Surroundings for FlatMachine {
     ghost Standing = { List ℤ };
 
     ghost Entry = { ℤ };
@@ -68,7 +68,7 @@ pub fn programs_run_flat()
 pub fn trees_run_flat()
     ensures { TreesRunFlat }
 {
-    trees_have_places();
+    trees_have_addresses();
     units_stand();
     areas_hold();
     first_states_are_typed();

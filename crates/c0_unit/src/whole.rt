@@ -1,12 +1,12 @@
 // The words of a unit.
 
-ghost use Rattle.std.specs.Prelude.{◌≡◌, ◌+◌, ◌*◌, ◌<◌, ◌≤◌, length, slice_index, IfOk};
-ghost use Rattle.masm.specs.Places.{ArePlaces};
+ghost use Rattle.std.specs.Prelude.{◌≡◌, ◌+◌, ◌*◌, ◌<◌, ◌≤◌, length, IfOk};
+ghost use Rattle.masm.specs.CodeAddresses.{AreCodeAddresses};
 ghost use Rattle.c0_tree.specs.View.{unit_view};
 ghost use Rattle.c0_meaning.specs.Limits.{all_nodes};
 ghost use Rattle.c0_unit.specs.Code.{program_words, unit_words, words_from};
 ghost use Rattle.c0_unit.specs.Flat.{RunsFlat};
-ghost use Rattle.c0_unit.specs.Laws.{ArePlacesOf};
+ghost use Rattle.c0_unit.specs.Laws.{AreAddressesOf};
 
 use crate::functions::emit_functions;
 use crate::laws::{programs_run_flat, units_are_short};
@@ -17,31 +17,33 @@ use c0_runtime::entry::ENTRY_WORDS;
 use c0_runtime::runtime::RUNTIME_WORDS;
 use c0_runtime::{emit_entry, emit_runtime};
 use layer_map::LAYER_WORDS;
-use masm::registers::Places;
+use masm::registers::CodeAddresses;
 use std::alloc::{AllocError, Global};
 use std::vec::Vec;
 
-// The places of a unit: all functions are emitted once without places, as no code's length hangs on them.
-fn unit_places(alloc: Global, layout: &Layout<'_>) -> Result<Places, AllocError>
-    ensures placed { IfOk result (λ p. ArePlacesOf (unit_view layout.now.unit.now) p) }
-    ensures places { IfOk result ArePlaces }
+// The addresses of a unit whose first function is that of the number `first`: all functions are emitted once without addresses, as no code's length hangs on them.
+fn unit_addresses(
+    alloc: Global,
+    layout: &Layout<'_>,
+    first: u32,
+) -> Result<CodeAddresses, AllocError>
+    requires { first ≤ length (unit_view layout.now.unit.now).functions }
+    ensures placed { IfOk result (λ p. AreAddressesOf (unit_view layout.now.unit.now) first p) }
+    ensures addresses { IfOk result AreCodeAddresses }
 {
-    let unplaced = placed_at(alloc, Vec::new(alloc), 0)?;
-    let mut code = vec![in alloc; 0; (ENTRY_WORDS + RUNTIME_WORDS) as usize]?;
-    let starts = emit_functions(alloc, layout, &unplaced, &mut code)?;
-    let globals = (LAYER_WORDS + code.len() as u32 + 1023) / 1024 * 4096;
-    placed_at(alloc, starts, globals)
+    let unplaced = placed_at(alloc, Vec::new(alloc), LAYER_WORDS, 0)?;
+    let mut code = vec![in alloc; 0; ENTRY_WORDS as usize]?;
+    let starts = emit_functions(alloc, layout, &unplaced, first, &mut code)?;
+    let routines = LAYER_WORDS + code.len() as u32;
+    placed_at(
+        alloc,
+        starts,
+        routines,
+        (routines + RUNTIME_WORDS + 1023) / 1024 * 4096,
+    )
 }
 
-// The address of the function of a number.
-fn start_of(places: &Places, number: u32) -> u32
-    requires { number < length places.now.functions.items }
-    ensures { result ≡ slice_index places.now.functions.items number }
-{
-    places.functions[number as usize]
-}
-
-// The code of a unit that begins with the function of the number `first`, for the address 0x10000.
+// The code of a unit whose first function is that of the number `first`, for the address 0x10000.
 fn compile_from(alloc: Global, unit: &Measured<'_>, first: u32) -> Result<Vec<u32>, AllocError>
     requires { first < length unit.now.functions.items }
     ensures words { IfOk result (λ v. v.items ≡ words_from (unit_view unit.now) first) }
@@ -49,12 +51,11 @@ fn compile_from(alloc: Global, unit: &Measured<'_>, first: u32) -> Result<Vec<u3
 {
     units_are_short();
     let layout = Layout::new(alloc, unit)?;
-    let places = unit_places(alloc, &layout)?;
-    let start = start_of(&places, first);
+    let addresses = unit_addresses(alloc, &layout, first)?;
     let mut code = Vec::new(alloc);
-    emit_entry(alloc, places.globals, start, &mut code)?;
-    emit_runtime(alloc, &places, &mut code)?;
-    let _starts = emit_functions(alloc, &layout, &places, &mut code)?;
+    emit_entry(alloc, addresses.globals, &mut code)?;
+    let _starts = emit_functions(alloc, &layout, &addresses, first, &mut code)?;
+    emit_runtime(alloc, &addresses, &mut code)?;
     Ok(code)
 }
 

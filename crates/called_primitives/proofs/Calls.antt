@@ -17,11 +17,11 @@ use Rattle.c0_meaning.specs.State.{C0State, stack_words}
 use Rattle.c0_meaning.specs.Operators.{StackOut, faulted, stuck}
 use Rattle.c0_meaning.specs.Evaluation.{Costed, costs, at_no_cost, truth, value_of, values_of, place_of}
 use Rattle.c0_meaning.specs.World.{Called, Setting, Cost, units, total, plus, Configuration, beginning, with_state, after_call, call_cost}
-use Rattle.c0_meaning.specs.Running.{Target, into, outward, Work, act_on, finish, again, leave, begin, Step, Go, Stop, push, then_go, store, deliver, enter, call_function, call_with, act}
-use Rattle.c0_meaning.specs.Execution.{Outcome, then_run, run, dispatch}
+use Rattle.c0_meaning.specs.Running.{Target, into, outward, Work, act_on, finish, again, leave, begin, Step, Go, Stop, push, then_go, store, deliver, enter, call_function, call_with, work_step}
+use Rattle.c0_meaning.specs.Execution.{Outcome, then_run, execute, dispatch}
 use Rattle.c0_meaning.specs.RunLaws.{cost_of, stands_at}
 use Rattle.cvm_model.specs.Kernel.{Core, Changes}
-use Rattle.cvm_model.specs.KernelMeaning.{Machines, machines_of, ints_of, called_by, kernel_primitive, setting_of, call_numbered as asked_with}
+use Rattle.cvm_model.specs.KernelMeaning.{Machines, machines_of, ints_of, primitive_called, kernel_primitive, setting_of, call_numbered as asked_with}
 use Rattle.cvm_model.specs.Primitives.{KernelCall, primitive_number}
 use Rattle.called_primitives.specs.Calls.{call_may, statement_may, block_may, body_may, calls_only}
 
@@ -120,7 +120,7 @@ module _ (may : ℕ → Bool) where
     calls_with k Primitive n args target w c e r h a q = delivers _ target _ w _ r h (kept.sum k _ a (kept.costs n args c e)) (kept.called n args c e q)
     calls_with k _ n args target w c e r h a q = (a, q)
 
-    acts : (item : Work) (w : List Work) (c : Here) → item_may item ≡ true → work_may w ≡ true → Q c → Stays (act setting item w c)
+    acts : (item : Work) (w : List Work) (c : Here) → item_may item ≡ true → work_may w ≡ true → Q c → Stays (work_step setting item w c)
     acts (act_on (assign span place v) rest) w c i h q = goes (units 1) c (value_of v c.state) _ (kept.own 1) q (λ j x a. stores j place x rest w c i h a q)
     acts (act_on (call span place call_span function args) rest) w c i h q =
         let parts = and_parts (call_may may function.kind function.number) (block_may may rest) i in
@@ -154,12 +154,12 @@ module _ (may : ℕ → Bool) where
     steps l used c f (Go k w d) a q s h = choosing (nat_lt l (total (plus used k))) _ _ (a, q) (h (plus used k) w d (kept.sum used k a s.1) s.0 s.2)
     steps l used c f (Stop k x d) a q s h = choosing (nat_lt l (total (plus used k))) _ _ (a, q) (kept.sum used k a s.0, s.1)
 
-    runs : (s l : ℕ) (used : Cost) (w : List Work) (c : Here) → work_may w ≡ true → C used → Q c → KeptAt (run setting s l used w c)
+    runs : (s l : ℕ) (used : Cost) (w : List Work) (c : Here) → work_may w ≡ true → C used → Q c → KeptAt (execute setting s l used w c)
     runs zero l used w c h a q = (a, q)
     runs (suc s) l used [] c h a q = (a, q)
     runs (suc s) l used (item ∷ w) c h a q =
         let parts = and_parts (item_may item) (work_may w) h in
-        steps l used c (run setting s l) (act setting item w c) a q (acts item w c parts.0 parts.1 q) (λ k v d b i r. runs s l k v d i b r)
+        steps l used c (execute setting s l) (work_step setting item w c) a q (acts item w c parts.0 parts.1 q) (λ k v d b i r. runs s l k v d i b r)
 
     -- EACH DISPATCH
     pub dispatches_keep : (n : ℕ) (c : Core) (cause edata user : ℤ) → Q (beginning (record c.c0 { frames = [] }) (machines_of p c)) → KeptAt (dispatch setting n cause edata user c.c0 (machines_of p c))
@@ -188,14 +188,14 @@ numbered n (a ∷ b ∷ c ∷ d ∷ f ∷ []) = by_number n 6 _ _ (λ e. e) tt
 numbered n (a ∷ b ∷ c ∷ d ∷ f ∷ g ∷ rest) = tt
 
 -- so what is so of each primitive that may be called, and of a call that is none, is so of each call of a number that may be called
-module _ (may : ℕ → Bool) (P : Called Machines Changes → Type 0) (m : Machines) (none : P (called_by m None)) (each : (asked : KernelCall) → may (primitive_number asked) ≡ true → P (called_by m (Some asked))) where
-  by_call : (n : ℕ) (o : Option KernelCall) → IsNumbered n o → may n ≡ true → P (called_by m o)
+module _ (may : ℕ → Bool) (P : Called Machines Changes → Type 0) (m : Machines) (none : P (primitive_called m None)) (each : (asked : KernelCall) → may (primitive_number asked) ≡ true → P (primitive_called m (Some asked))) where
+  by_call : (n : ℕ) (o : Option KernelCall) → IsNumbered n o → may n ≡ true → P (primitive_called m o)
   by_call n None h e = none
   by_call n (Some asked) h e = each asked (subst (λ i. may i ≡ true) (sym h) e)
 
   pub by_primitive : (n : ℕ) (args : Values) → may n ≡ true → P (kernel_primitive n args m)
   by_primitive n args e = by (ints_of args)
     where
-      by : (o : Option (List ℤ)) → P (called_by m (option_and_then (asked_with n) o))
+      by : (o : Option (List ℤ)) → P (primitive_called m (option_and_then (asked_with n) o))
       by None = none
       by (Some xs) = by_call n (asked_with n xs) (numbered n xs) e

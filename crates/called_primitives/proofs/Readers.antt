@@ -10,7 +10,7 @@ use Rattle.mips_table.specs.Machine.{Console}
 use Rattle.mips_table.specs.Flat.{Flat}
 use Rattle.c0_tree.specs.Tree.{CUnit}
 use Rattle.c0_meaning.specs.Value.{Values}
-use Rattle.c0_meaning.specs.World.{Called, Cost, entries_of, journal}
+use Rattle.c0_meaning.specs.World.{Called, Cost, all_entries, journal_so_far}
 use Rattle.c0_meaning.specs.Execution.{Outcome, Done, Failed, NotYet, dispatch}
 use Rattle.cvm_model.specs.Kernel.{Core, JournalEntry, Changes}
 use Rattle.cvm_model.specs.KernelMeaning.{Machines, machines_of, kernel_primitive, outcome_of, setting_of}
@@ -62,16 +62,16 @@ quiet_primitive n args m e = by_primitive only_reads (QuietCalled m) m (record {
     (λ asked may. let q = quiet_call m.most asked m.users m.console may in record { quiet = quiet_entries _ q.0; same = q.1 }) n args e
 
 -- the entries of calls, with one call more
-entries_more : (calls : List (List Changes)) (xs : List Changes) → entries_of (calls ++ xs ∷ []) ≡ entries_of calls ++ xs
+entries_more : (calls : List (List Changes)) (xs : List Changes) → all_entries (calls ++ xs ∷ []) ≡ all_entries calls ++ xs
 entries_more [] xs = append-nil xs
-entries_more (x ∷ calls) xs = ap (λ ys. x ++ ys) (entries_more calls xs) ∙ sym (append_assoc x (entries_of calls) xs)
+entries_more (x ∷ calls) xs = ap (λ ys. x ++ ys) (entries_more calls xs) ∙ sym (append_assoc x (all_entries calls) xs)
 
 abbrev AnyCost : Cost → Type 0
 AnyCost k = Unit {0}
 
 -- no change so far: no entry, and the machines are these
 abbrev Quiet : List Flat → Here → Type 0
-Quiet us c = (list_all is_quiet (entries_of c.calls) ≡ true) × (c.world.users ≡ us)
+Quiet us c = (list_all is_quiet (all_entries c.calls) ≡ true) × (c.world.users ≡ us)
 
 quiet_kept : (us : List Flat) → AreKept only_reads AnyCost (Quiet us)
 quiet_kept us = record {
@@ -83,7 +83,7 @@ quiet_kept us = record {
   called = λ n args c e q.
       let g : Called Machines Changes = kernel_primitive n args c.world in
       let quiet : QuietCalled c.world g = quiet_primitive n args c.world e in
-      (ap (list_all is_quiet) (entries_more c.calls g.entries) ∙ list_all-append is_quiet (entries_of c.calls) g.entries ∙ and_from _ _ q.0 quiet.quiet, quiet.same ∙ q.1);
+      (ap (list_all is_quiet) (entries_more c.calls g.entries) ∙ list_all-append is_quiet (all_entries c.calls) g.entries ∙ and_from _ _ q.0 quiet.quiet, quiet.same ∙ q.1);
 }
 
 -- what the calls changed of a user
@@ -104,9 +104,9 @@ module _ (u : CUnit) (p : Params) (only : calls_only only_reads u ≡ true) wher
   quiet n c cause edata user = dispatches_keep only_reads AnyCost (Quiet c.users) (quiet_kept c.users) u p only n c cause edata user (refl, refl)
 
   of_calls : (v : ℕ) (us : List Flat) (c : Core) (o : Outcome Machines Changes) → Kept us o → changes_of v (outcome_of c o).calls ≡ []
-  of_calls v us c (Done k d) q = none_changed v (journal d) q.1.0
-  of_calls v us c (Failed k f d) q = none_changed v (journal d) q.1.0
-  of_calls v us c (NotYet k d) q = none_changed v (journal d) q.1.0
+  of_calls v us c (Done k d) q = none_changed v (journal_so_far d) q.1.0
+  of_calls v us c (Failed k f d) q = none_changed v (journal_so_far d) q.1.0
+  of_calls v us c (NotYet k d) q = none_changed v (journal_so_far d) q.1.0
 
   of_users : (us : List Flat) (c : Core) (o : Outcome Machines Changes) → Kept us o → (outcome_of c o).after.users ≡ us
   of_users us c (Done k d) q = q.1.1

@@ -16,7 +16,7 @@ use Rattle.c0_tree.specs.declared.primitive.Scalar.TheVariants.{Int, Bool as Boo
 use Rattle.c0_tree.specs.Primitives.{kernel_primitives}
 use Rattle.c0_tree.specs.Tree.{CUnit}
 use Rattle.c0_meaning.specs.Value.{int, bool, null, at, group, Values, empty, part}
-use Rattle.c0_meaning.specs.World.{journal as journal_at}
+use Rattle.c0_meaning.specs.World.{journal_so_far as journal_at}
 use Rattle.c0_meaning.specs.Execution as c0_run
 use Rattle.c0_meaning.specs.TypedState.{AreScalars, IsTypedState}
 use Rattle.c0_meaning.specs.RunLaws.{FirstIsTyped, DispatchesAreSafe, stands_at}
@@ -24,8 +24,8 @@ use Rattle.c0_meaning.specs.EntryLaws.{EntriesPass, DispatchesPass}
 use Rattle.cvm_model.specs.declared.row.Next.{Next}
 use Rattle.cvm_model.specs.declared.row.Next.TheVariants.{User, Halt, Fault}
 use Rattle.cvm_model.specs.Kernel.{Core, Changes, JournalEntry, Stepped, Trapped, DispatchOutcome, DispatchEnd, Answers, Faults, NotYet}
-use Rattle.cvm_model.specs.Primitives.{KernelCall, VmGet, VmSet, VmSize, VmResize, VmWord, VmPut, VmCopy, ConPut, ConGet, ConLeft, is_good, granted, refused, unchanged, prim, puts, arguments_of, user_of, pages_of}
-use Rattle.cvm_model.specs.KernelMeaning.{Machines, ints_of, called_by, kernel_primitive, setting_of, machines_of, outcome_of}
+use Rattle.cvm_model.specs.Primitives.{KernelCall, VmGet, VmSet, VmSize, VmResize, VmWord, VmPut, VmCopy, ConPut, ConGet, ConLeft, is_good, granted, refused, unchanged, prim, put_entries, arguments_of, user_of, pages_of}
+use Rattle.cvm_model.specs.KernelMeaning.{Machines, ints_of, primitive_called, kernel_primitive, setting_of, machines_of, outcome_of}
 use Rattle.cvm_model.specs.Stands.{IsUser, input_room}
 use Rattle.cvm_model.specs.Cvm.{System, Cvm, Status, Running, Halted, Faulted, Interrupts, user_step, begin, next_of, status_of, core_of, dispatched, after_dispatch, dispatch_of, begun, turn_by, turn, cvm, first_cvm}
 use Rattle.cvm_model.specs.Invariant.{Known, Shaped, UserShaped, RunsAreLawful, with_machine, machine_after}
@@ -39,7 +39,7 @@ cast_small : (v : ℤ) → FitsSigned w32 v → cast_unsigned w32 v < 2 ^ 32
 cast_small (pos n) h = let f = h.sfits in omega (arith, f)
 cast_small (negsuc n) h = let f = h.sfits in omega (arith, f)
 
-puts_hold : (b : ℕ) (ws : List ℕ) → list_all holds_word (puts b ws) ≡ true
+puts_hold : (b : ℕ) (ws : List ℕ) → list_all holds_word (put_entries b ws) ≡ true
 puts_hold b [] = refl
 puts_hold b (w ∷ ws) = puts_hold (b + 4) ws
 
@@ -88,7 +88,7 @@ call_holds c = list_all holds_word c.entries
 primitives_pass : EntriesPass are_small call_holds kernel_primitives kernel_primitive
 primitives_pass n row args w e h right =
     let t : Told n row args = told n row args e h in
-    subst (λ o. list_all call_holds (called_by w o).entries ≡ true) (sym t.is)
+    subst (λ o. list_all call_holds (primitive_called w o).entries ≡ true) (sym t.is)
     (ap (λ b. b && true) (prim_hold w.most t.call w.users w.console (ints_fit row.args args (arguments_of t.call) h t.arguments)))
 
 -- A DISPATCH

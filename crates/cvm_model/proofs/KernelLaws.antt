@@ -8,7 +8,7 @@ use Rattle.c0_meaning.specs.Limits.{is_dispatch}
 use Rattle.c0_meaning.specs.Value.{Value, int, bool, null, at, group, empty, part}
 use Rattle.c0_meaning.specs.Operators.{Failure, faulted, stuck}
 use Rattle.c0_meaning.specs.Operators as c0
-use Rattle.c0_meaning.specs.World.{Configuration, beginning, entries_of}
+use Rattle.c0_meaning.specs.World.{Configuration, beginning, all_entries}
 use Rattle.c0_meaning.specs.Running.{Work, begin}
 use Rattle.c0_meaning.specs.Execution.{run_within}
 use Rattle.c0_meaning.specs.Execution as c0_run
@@ -25,14 +25,14 @@ over c (c0_run.Failed k f d) h = tt
 over c (c0_run.NotYet k d) h = absurd (h refl)
 
 -- the calls of an outcome are those of where the run stands
-calls_at : (c : Core) (o : c0_run.Outcome Machines Changes) → (outcome_of c o).calls ≡ entries_of (stands_at o).calls
+calls_at : (c : Core) (o : c0_run.Outcome Machines Changes) → (outcome_of c o).calls ≡ all_entries (stands_at o).calls
 calls_at c (c0_run.Done k d) = refl
 calls_at c (c0_run.Failed k f d) = refl
 calls_at c (c0_run.NotYet k d) = refl
 
-pub joined : (a b : List (List Changes)) → entries_of (a ++ b) ≡ entries_of a ++ entries_of b
+pub joined : (a b : List (List Changes)) → all_entries (a ++ b) ≡ all_entries a ++ all_entries b
 joined [] b = refl
-joined (e ∷ a) b = ap (λ xs. e ++ xs) (joined a b) ∙ sym (append_assoc e (entries_of a) (entries_of b))
+joined (e ∷ a) b = ap (λ xs. e ++ xs) (joined a b) ∙ sym (append_assoc e (all_entries a) (all_entries b))
 
 -- no run ends by a bad next user
 answers_proper : (v : Option Value) → answer_end v ≢ Faults BadUser
@@ -69,9 +69,9 @@ within u p n c cause edata user = run_within (setting_of u p) n (work_of u cause
 extends : (c : Core) (a b : c0_run.Outcome Machines Changes) → (more : List (List Changes)) × ((stands_at b).calls ≡ (stands_at a).calls ++ more) →
     take (length (outcome_of c a).calls) (outcome_of c b).calls ≡ (outcome_of c a).calls
 extends c a b m =
-    let whole : (outcome_of c b).calls ≡ (outcome_of c a).calls ++ entries_of m.0 =
-    calls_at c b ∙ ap (λ xs. entries_of xs) m.1 ∙ joined (stands_at a).calls m.0 ∙ ap (λ xs. xs ++ entries_of m.0) (sym (calls_at c a)) in
-    ap (λ xs. take (length (outcome_of c a).calls) xs) whole ∙ take-append_seam (outcome_of c a).calls (entries_of m.0)
+    let whole : (outcome_of c b).calls ≡ (outcome_of c a).calls ++ all_entries m.0 =
+    calls_at c b ∙ ap (λ xs. all_entries xs) m.1 ∙ joined (stands_at a).calls m.0 ∙ ap (λ xs. xs ++ all_entries m.0) (sym (calls_at c a)) in
+    ap (λ xs. take (length (outcome_of c a).calls) xs) whole ∙ take-append_seam (outcome_of c a).calls (all_entries m.0)
 
 pub units_are_kernels : MoreUnits Machines Changes → CallsExtend Machines Changes → UnitsAreKernels
 units_are_kernels more extend u p = record {

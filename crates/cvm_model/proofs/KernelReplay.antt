@@ -3,7 +3,7 @@ use Rattle.std.proofs.Common.{◌≡◌, ℕ, ◌≤◌, Bool, true, false, cond
 use Rattle.std.proofs.lemmas.List.{append_assoc, append-nil}
 use Rattle.std.specs.Prelude.{option_and_then}
 use Rattle.mips_table.specs.Machine.{Console}
-use Rattle.c0_meaning.specs.World.{entries_of}
+use Rattle.c0_meaning.specs.World.{all_entries}
 use Rattle.c0_meaning.specs.PrimitiveCalls.{PrimitiveCall, world_after, entries_made}
 use Rattle.c0_meaning.specs.Execution.{run_within}
 use Rattle.c0_meaning.specs.Execution as c0_run
@@ -11,7 +11,7 @@ use Rattle.c0_meaning.specs.RunLaws.{PrimitivesAlone, stands_at}
 use Rattle.mips_table.specs.Flat.{Flat}
 use Rattle.cvm_model.specs.Kernel.{Core, Changes}
 use Rattle.cvm_model.specs.Primitives.{KernelCall, VmGet, VmSet, VmSize, VmResize, VmWord, VmPut, VmCopy, ConPut, ConGet, ConLeft, is_good, granted, refused, unchanged, prim, user_of}
-use Rattle.cvm_model.specs.KernelMeaning.{Machines, ints_of, called_by, kernel_primitive, setting_of, machines_of, outcome_of, UnitsReplay}
+use Rattle.cvm_model.specs.KernelMeaning.{Machines, ints_of, primitive_called, kernel_primitive, setting_of, machines_of, outcome_of, UnitsReplay}
 use Rattle.cvm_model.specs.KernelMeaning as kernel
 use Rattle.cvm_model.specs.Journal.{changes_of, replay, CallsReplay}
 use Rattle.cvm_model.proofs.Replays.{joins}
@@ -21,7 +21,7 @@ use Rattle.cvm_model.proofs.PrimitiveReplays.{unchanged_case, primitives_replay}
 -- the calls so far, replayed over the users' machines at the start, give those that stand now
 record Kept (users : List Flat) (m : Machines) (calls : List (List Changes)) : Type 0 where
   count : length m.users ≡ length users
-  each : (u : ℕ) → 1 ≤ u → u ≤ length users → replay (user_of users u) (changes_of u (entries_of calls)) ≡ Some (user_of m.users u)
+  each : (u : ℕ) → 1 ≤ u → u ≤ length users → replay (user_of users u) (changes_of u (all_entries calls)) ≡ Some (user_of m.users u)
 
 -- a call changes no number of machines
 granted_count : (users : List Flat) (o : Console) (c : KernelCall) → length (granted users o c).users ≡ length users
@@ -54,14 +54,14 @@ one_more : (users : List Flat) (m after : Machines) (calls : List (List Changes)
 one_more users m after calls c k same step = record {
   count = same ∙ k.count;
   each = λ u from to.
-      let all : changes_of u (entries_of (calls ++ (c ∷ []) ∷ [])) ≡ changes_of u (entries_of calls) ++ changes_of u (c ∷ []) =
-      ap (changes_of u) (joined calls ((c ∷ []) ∷ [])) ∙ changes_join u (entries_of calls) (c ∷ []) in
+      let all : changes_of u (all_entries (calls ++ (c ∷ []) ∷ [])) ≡ changes_of u (all_entries calls) ++ changes_of u (c ∷ []) =
+      ap (changes_of u) (joined calls ((c ∷ []) ∷ [])) ∙ changes_join u (all_entries calls) (c ∷ []) in
       let n : length m.users ≡ length users = k.count in
-      ap (replay (user_of users u)) all ∙ joins (user_of users u) (changes_of u (entries_of calls)) (changes_of u (c ∷ []))
+      ap (replay (user_of users u)) all ∙ joins (user_of users u) (changes_of u (all_entries calls)) (changes_of u (c ∷ []))
       ∙ ap (option_and_then (λ g. replay g (changes_of u (c ∷ [])))) (k.each u from to) ∙ step u from (omega arith);
 }
 
-called : (users : List Flat) (m : Machines) (calls : List (List Changes)) (o : Option KernelCall) → Kept users m calls → Kept users (called_by m o).world (calls ++ (called_by m o).entries ∷ [])
+called : (users : List Flat) (m : Machines) (calls : List (List Changes)) (o : Option KernelCall) → Kept users m calls → Kept users (primitive_called m o).world (calls ++ (primitive_called m o).entries ∷ [])
 called users m calls None k = one_more users m m calls _ k refl (λ u from to. unchanged_case m.users u)
 called users m calls (Some c) k = one_more users m _ calls _ k (prim_count m.most c m.users m.console) (λ u from to. primitives_replay m.most c m.users m.console u from to)
 

@@ -23,7 +23,7 @@ use Rattle.mips_table.specs.Flat.{Flat}
 use Rattle.layer_map.specs.Map.{Map, ParamsInRange}
 use Rattle.cvm_model.specs.Kernel.{Core, Changes, Answers, NotYet}
 use Rattle.cvm_model.specs.Primitives.{KernelCall, VmGet, VmSet, VmSize, VmResize, VmWord, VmPut, VmCopy, ConPut, ConGet, ConLeft, Given, primitive_number, arguments_of, is_good, is_within, granted, refused, unchanged, prim, no_flat, user_of, pages_of, with_register, resized, with_word, with_words}
-use Rattle.cvm_model.specs.KernelMeaning.{Machines, ints_of, call_numbered, called_by, kernel_primitive, setting_of, machines_of, answer_end, outcome_of}
+use Rattle.cvm_model.specs.KernelMeaning.{Machines, ints_of, call_numbered, primitive_called, kernel_primitive, setting_of, machines_of, answer_end, outcome_of}
 use Rattle.cvm_model.specs.Stands.{CoreFits, UserFits, input_room}
 use Rattle.cvm_model.specs.TypedKernel.{RowsAreCalled, UnitsAnswerInts, UnitsStayTyped, UnitsWantUnits}
 use Rattle.cvm_model.proofs.PrimitiveReplays.{and_left, and_right, place_is}
@@ -253,11 +253,11 @@ pub answers_fit : AnswersFit are_small kernel_primitives kernel_primitive
 answers_fit = record {
   answer = λ n row args m e h r.
       let t : Told n row args = told n row args e h in
-      subst (λ o. IsScalar row.answer (called_by m o).answer) (sym t.is) (subst (λ s. IsScalar s (called_by m (Some t.call)).answer) t.scalar (prim_fits m.most t.call m.users m.console (users_of m r) (input_of m r)));
+      subst (λ o. IsScalar row.answer (primitive_called m o).answer) (sym t.is) (subst (λ s. IsScalar s (primitive_called m (Some t.call)).answer) t.scalar (prim_fits m.most t.call m.users m.console (users_of m r) (input_of m r)));
   world = λ n row args m e h r.
       let t : Told n row args = told n row args e h in
       let s : Small m.most (prim m.most t.call m.users m.console) = prim_small m.most t.call m.users m.console (most_of m r) (users_of m r) (input_of m r) in
-      subst (λ o. are_small (called_by m o).world ≡ true) (sym t.is)
+      subst (λ o. are_small (primitive_called m o).world ≡ true) (sym t.is)
       (ap₂ (λ a b. a && b) (ap₂ (λ a b. a && b) (le-leb m.most 1024 (most_of m r)) (le-leb (length (prim m.most t.call m.users m.console).console.input) input_room s.input)) s.users);
 }
 

@@ -22,7 +22,7 @@ use Rattle.cvm_model.specs.declared.row.Next.{Next}
 use Rattle.cvm_model.specs.declared.row.Next.TheVariants.{User, Halt, Fault}
 use Rattle.cvm_model.specs.declared.kernel_fault.KernelFault.TheVariants.{BadUser}
 use Rattle.cvm_model.specs.declared.row.Row.{Row}
-use Rattle.cvm_model.specs.Invariant.{Dispatch, row_of, rows_of, next_by, made_by, of_begin, of_status, of_turn, dispatches_of, IsTrap, machine_after, with_machine, Known, HasEight, HasUsers, RunsAreLawful}
+use Rattle.cvm_model.specs.Invariant.{Dispatch, dispatch_row, dispatch_rows, next_by, made_by, of_begin, of_status, of_turn, dispatches_of, IsTrap, machine_after, with_machine, Known, HasEight, HasUsers, RunsAreLawful}
 use Rattle.cvm_model.specs.Systems.{SystemProperty, status_from, turns_from, DispatchKept, KeepsAll, KeepsIfOver, IsKeptBy, IsSystemInvariant, IsRunInvariant, SystemHolds, SystemsHold, RunsHold, lines_taken, EndsBelow, CameBy, at_start, by_line, by_trap, Chain, RunsAreChains}
 
 -- a step of a user traps by the causes of traps alone
@@ -57,9 +57,9 @@ step_traps f =
     accessed_traps f (a.may_fetch f.cpu.pc) causes.FetchAlign causes.FetchFault f.cpu.pc f.cpu.pc (executed a f.cpu w (decoding w)) tt tt (executed_traps f a f.cpu w (decoding w))
 
 -- HISTORY with a dispatch more
-pub rows_join : (a : List Dispatch) (d : Dispatch) → rows_of (a ++ d ∷ []) ≡ rows_of a ++ row_of d ∷ []
+pub rows_join : (a : List Dispatch) (d : Dispatch) → dispatch_rows (a ++ d ∷ []) ≡ dispatch_rows a ++ dispatch_row d ∷ []
 rows_join [] d = refl
-rows_join (e ∷ a) d = ap (λ rows. row_of e ∷ rows) (rows_join a d)
+rows_join (e ∷ a) d = ap (λ rows. dispatch_row e ∷ rows) (rows_join a d)
 
 pub status_join : (s : Status) (a : List Dispatch) (d : Dispatch) → status_from s (a ++ d ∷ []) ≡ status_of d.next
 status_join s [] d = refl
@@ -118,7 +118,7 @@ module _ (y : System) (n : ℕ) (Fit : Core → Type 0) (I : SystemProperty) (kn
   user_next (Fault f) o is e = absurd (cc)
 
   -- behind a dispatch, by who is next
-  behind : (past : List Dispatch) (k cause edata : ℕ) (c : Cvm) (at : Core) (pending : ℕ) → Fit at → c.rows ≡ rows_of past → pending < 2 ^ 8 → DispatchKept y n I k cause edata past at →
+  behind : (past : List Dispatch) (k cause edata : ℕ) (c : Cvm) (at : Core) (pending : ℕ) → Fit at → c.rows ≡ dispatch_rows past → pending < 2 ^ 8 → DispatchKept y n I k cause edata past at →
       (next : Next) → next_by (length y.boot.users) (dispatch_of y n cause edata at).end ≡ next → IsOneOf (length y.boot.users) next →
       Stands (suc k) (past ++ made_by y n k cause edata at (dispatch_of y n cause edata at) ∷ []) (dispatched y c k cause edata at.current pending (dispatch_of y n cause edata at) next)
   behind past k cause edata c at pending fit rows few kept next same one =
@@ -148,7 +148,7 @@ module _ (y : System) (n : ℕ) (Fit : Core → Type 0) (I : SystemProperty) (kn
   over_fault : (f : _) (e : DispatchEnd) → e ≡ Faults f → e ≢ NotYet
   over_fault f e is g = absurd (let h : Faults f ≡ NotYet = sym is ∙ g in cc)
 
-  dispatch_comes : (past : List Dispatch) (k cause edata : ℕ) (c : Cvm) (at : Core) (pending : ℕ) → Fit at → c.rows ≡ rows_of past → pending < 2 ^ 8 → KeepsIfOver y n I k cause edata past at
+  dispatch_comes : (past : List Dispatch) (k cause edata : ℕ) (c : Cvm) (at : Core) (pending : ℕ) → Fit at → c.rows ≡ dispatch_rows past → pending < 2 ^ 8 → KeepsIfOver y n I k cause edata past at
       → Comes (suc k) (past ++ made_by y n k cause edata at (dispatch_of y n cause edata at) ∷ []) (dispatches y n k c cause edata at pending)
   dispatch_comes past k cause edata c at pending fit rows few h = by (dispatch_of y n cause edata at).end refl
     where

@@ -29,11 +29,11 @@ pub record Dispatch : Type 0 where
   pub next : Next
 
 -- the row that it prints
-abbrev pub row_of : Dispatch → Row
-row_of d = record { turn = d.turn; cause = d.cause; edata = d.edata; user = d.before.current; next = d.next }
+abbrev pub dispatch_row : Dispatch → Row
+dispatch_row d = record { turn = d.turn; cause = d.cause; edata = d.edata; user = d.before.current; next = d.next }
 
-abbrev pub rows_of : List Dispatch → List Row
-rows_of past = map row_of past
+abbrev pub dispatch_rows : List Dispatch → List Row
+dispatch_rows past = map dispatch_row past
 
 -- a property of what a kernel shows between dispatches: the dispatches so far, its data, and the current user
 abbrev pub Property : Type 1
@@ -141,7 +141,7 @@ IsSafe other = Unit {0}
 -- what holds of a state after the first turn
 pub record Holds (I : Property) (past : List Dispatch) (c : Cvm) : Type 0 where
   pub safe : IsSafe c.status
-  pub rows : c.rows ≡ rows_of past
+  pub rows : c.rows ≡ dispatch_rows past
   pub kept : I past c.core.c0 c.core.current
 
 -- no line but the eight is raised

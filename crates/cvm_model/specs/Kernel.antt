@@ -11,15 +11,15 @@ use Rattle.cvm_model.specs.declared.kernel_fault.KernelFault.{KernelFault}
 use Rattle.cvm_model.specs.declared.kernel_fault.KernelFault.TheVariants.{NullUse, Bounds, DivZero, StackOut, BadUser}
 
 -- the fields or elements of a value
-abbrev pub parts_of : Value → Values
-parts_of (group vs) = vs
-parts_of other = empty
+abbrev pub parts_of_value : Value → Values
+parts_of_value (group vs) = vs
+parts_of_value other = empty
 
 -- one of them
-abbrev pub part_at : Values → ℕ → Value
-part_at empty i = null
-part_at (part v vs) zero = v
-part_at (part v vs) (suc i) = part_at vs i
+abbrev pub part_of_value : Values → ℕ → Value
+part_of_value empty i = null
+part_of_value (part v vs) zero = v
+part_of_value (part v vs) (suc i) = part_of_value vs i
 
 -- the words of those before it
 abbrev pub value_words_before : Values → ℕ → ℕ
@@ -30,7 +30,7 @@ value_words_before (part v vs) (suc i) = scalars v + value_words_before vs i
 -- how many words after a value's first word the part at a path begins
 abbrev pub part_offset : List ℕ → Value → ℕ
 part_offset [] v = 0
-part_offset (i ∷ path) v = value_words_before (parts_of v) i + part_offset path (part_at (parts_of v) i)
+part_offset (i ∷ path) v = value_words_before (parts_of_value v) i + part_offset path (part_of_value (parts_of_value v) i)
 
 -- the words that stand for a value, where each location has its address; null is 0 and true is 1
 abbrev mutual

@@ -9,7 +9,7 @@ use Rattle.c0_meaning.specs.Value.{Value, int, null, Values, empty, part}
 use Rattle.c0_meaning.specs.State.{first_state}
 use Rattle.c0_meaning.specs.Operators.{Failure, faulted, stuck}
 use Rattle.c0_meaning.specs.Operators as c0
-use Rattle.c0_meaning.specs.World.{Called, Setting, Cost, total, Configuration, journal}
+use Rattle.c0_meaning.specs.World.{Called, Setting, Cost, total, Configuration, journal_so_far}
 use Rattle.c0_meaning.specs.Execution as c0_run
 use Rattle.mips_table.specs.Flat.{Flat}
 use Rattle.layer_map.specs.declared.params.Params.{Params}
@@ -44,13 +44,19 @@ call_numbered k other = None
 abbrev pub after_primitive : Machines → KernelCall → Given → Called Machines Changes
 after_primitive m call g = record { answer = g.answer; world = record m { users = g.users; console = g.console }; entries = changes_told call g ∷ []; pages = g.pages; words = g.words }
 
-abbrev pub called_by : Machines → Option KernelCall → Called Machines Changes
-called_by m (Some call) = after_primitive m call (prim m.most call m.users m.console)
-called_by m None = record { answer = null; world = m; entries = record { number = 0; arguments = []; user = 0; entries = [] } ∷ []; pages = 0; words = 0 }
+abbrev pub primitive_called : Machines → Option KernelCall → Called Machines Changes
+primitive_called m (Some call) = after_primitive m call (prim m.most call m.users m.console)
+primitive_called m None = record {
+  answer = null;
+  world = m;
+  entries = record { number = 0; arguments = []; user = 0; entries = [] } ∷ [];
+  pages = 0;
+  words = 0;
+}
 
 -- the meaning of the kernel's primitives, each of which makes one entry: which call it was, and what it changed
 abbrev pub kernel_primitive : ℕ → Values → Machines → Called Machines Changes
-kernel_primitive n args m = called_by m (option_and_then (call_numbered n) (ints_of args))
+kernel_primitive n args m = primitive_called m (option_and_then (call_numbered n) (ints_of args))
 
 -- a fault of C0 as a fault of the kernel
 abbrev pub fault_of : c0.KernelFault → KernelFault
@@ -73,7 +79,7 @@ abbrev pub core_at : Core → Configuration Machines Changes → Core
 core_at c d = record c { c0 = record d.state { frames = [] }; users = d.world.users; console = d.world.console }
 
 abbrev pub outcome_at : Core → DispatchEnd → Cost → Configuration Machines Changes → DispatchOutcome
-outcome_at c end cost d = record { end = end; after = core_at c d; calls = journal d; units = total cost; pages = cost.pages }
+outcome_at c end cost d = record { end = end; after = core_at c d; calls = journal_so_far d; units = total cost; pages = cost.pages }
 
 -- the outcome of a dispatch
 abbrev pub outcome_of : Core → c0_run.Outcome Machines Changes → DispatchOutcome

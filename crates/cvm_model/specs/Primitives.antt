@@ -91,14 +91,14 @@ abbrev pub with_words : Flat → ℕ → List ℕ → Flat
 with_words f a new = record f { words = take (a / 4) f.words ++ (new ++ drop (a / 4 + length new) f.words) }
 
 -- the entries of words that are put from an address on
-abbrev pub puts : ℕ → List ℕ → List JournalEntry
-puts a [] = []
-puts a (w ∷ ws) = Put a w ∷ puts (a + 4) ws
+abbrev pub put_entries : ℕ → List ℕ → List JournalEntry
+put_entries a [] = []
+put_entries a (w ∷ ws) = Put a w ∷ put_entries (a + 4) ws
 
 -- the runs of words with one source page and one target page, among n words
-abbrev pub pieces : ℕ → ℕ → ℕ → ℕ
-pieces a b zero = 0
-pieces a b (suc n) = pieces a b n + (if n == 0 || (a / 4 + n) % 1024 == 0 || (b / 4 + n) % 1024 == 0 then 1 else 0)
+abbrev pub copy_pieces : ℕ → ℕ → ℕ → ℕ
+copy_pieces a b zero = 0
+copy_pieces a b (suc n) = copy_pieces a b n + (if n == 0 || (a / 4 + n) % 1024 == 0 || (b / 4 + n) % 1024 == 0 then 1 else 0)
 
 -- whether an int is one of low to high
 abbrev pub is_within : ℕ → ℕ → ℤ → Bool
@@ -162,7 +162,7 @@ granted users o (VmPut u a v) =
     changed users o (nat_abs u) (with_word (user_of users (nat_abs u)) (nat_abs a) value) (Put (nat_abs a) value ∷ []) 1 1
 granted users o (VmCopy u a v b n) =
     let words = take (nat_abs n) (drop (nat_abs a / 4) (user_of users (nat_abs u)).words) in
-    changed users o (nat_abs v) (with_words (user_of users (nat_abs v)) (nat_abs b) words) (puts (nat_abs b) words) (nat_abs n) (3 * pieces (nat_abs a) (nat_abs b) (nat_abs n))
+    changed users o (nat_abs v) (with_words (user_of users (nat_abs v)) (nat_abs b) words) (put_entries (nat_abs b) words) (nat_abs n) (3 * copy_pieces (nat_abs a) (nat_abs b) (nat_abs n))
 granted users o (ConPut w) =
     let has = log_has_room o.log in
     unchanged users (if has then record o { log = o.log ++ cast_unsigned w32 w ∷ [] } else o) (bool has) 0 0

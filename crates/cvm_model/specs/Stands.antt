@@ -11,7 +11,7 @@ use Rattle.mips_table.specs.Fits.{CpuFits, Fits}
 use Rattle.layer_map.specs.Map.{Map, current_at, heap_used_at, heap_words_at, stack_limit_at, block_at, globals_at, heap_at, memory_words, table_of}
 use Rattle.layer_map.specs.declared.places.TheConstants.{BLOCK_SIZE, BLOCK_HI, BLOCK_LO}
 use Rattle.page_model.specs.Paging.{PagingInvariant}
-use Rattle.page_model.specs.Places.{page_layout}
+use Rattle.page_model.specs.TableLayout.{page_layout}
 use Rattle.c0_meaning.specs.Value as value
 use Rattle.c0_meaning.specs.Value.{Region, Location}
 use Rattle.c0_meaning.specs.State.{C0State, region_value}

@@ -13,7 +13,7 @@ use Rattle.cvm_model.specs.KernelMeaning.{Machines, kernel_meaning, core_at}
 use Rattle.cvm_model.specs.Primitives.{user_of}
 use Rattle.cvm_model.specs.Stands.{IsUser}
 use Rattle.cvm_model.specs.Cvm.{System, Cvm, Status, Running, cvm, IsCvm, dispatch_of, next_of, status_of, core_of, first_core}
-use Rattle.cvm_model.specs.Invariant.{Dispatch, rows_of, next_by, made_by, dispatches_of, IsTrapOf, with_machine, Known, HasEight, HasUsers}
+use Rattle.cvm_model.specs.Invariant.{Dispatch, dispatch_rows, next_by, made_by, dispatches_of, IsTrapOf, with_machine, Known, HasEight, HasUsers}
 
 -- a property of so many complete turns, the dispatches in them, and the state behind them: the kernel's data, the users' machines, the console and who is
 -- current
@@ -82,7 +82,7 @@ pub record SystemHolds (Fit : Core → Type 0) (I : SystemProperty) (k : ℕ) (p
   pub most : made ≤ k
   pub all : c.status ≡ Running → made ≡ k
   pub last : c.status ≢ Running → made ≡ turns_of past
-  pub rows : c.rows ≡ rows_of past
+  pub rows : c.rows ≡ dispatch_rows past
   pub status : c.status ≡ status_after past
   pub fits : Fit c.core
   pub user : c.status ≡ Running → IsUser c.core c.core.current

@@ -4,7 +4,7 @@ use Rattle.std.specs.Fmt.{signed_decimal}
 use Rattle.cvm_text.specs.Hex.{hex8}
 use Rattle.mips_table.specs.Flat.{Flat}
 use Rattle.c0_meaning.specs.Value.{Value, Values, int, bool, null, at, group, part}
-use Rattle.cvm_model.specs.Kernel.{parts_of, Core, JournalEntry, Stepped, Trapped, Set, Size, Put}
+use Rattle.cvm_model.specs.Kernel.{parts_of_value, Core, JournalEntry, Stepped, Trapped, Set, Size, Put}
 use Rattle.cvm_model.specs.declared.kernel_fault.KernelFault.{KernelFault}
 use Rattle.cvm_model.specs.declared.kernel_fault.KernelFault.TheVariants.{NullUse, Bounds, DivZero, StackOut, BadUser}
 use Rattle.cvm_model.specs.Primitives.{pages_of}
@@ -87,7 +87,7 @@ users_text u (f ∷ rest) = user_text u f ++ users_text (u + 1) rest
 
 -- the report: globals, log and users
 abbrev pub report_text : List (List ℕ) → Core → List ℕ
-report_text names c = globals_text names (parts_of c.c0.global_values) ++ log_text c.console.log ++ users_text 1 c.users
+report_text names c = globals_text names (parts_of_value c.c0.global_values) ++ log_text c.console.log ++ users_text 1 c.users
 
 -- the end and the report, unless the kernel faulted
 abbrev pub closing_text : System → Cvm → Status → List ℕ

@@ -3,21 +3,21 @@
 
 ghost use Rattle.cvm_model.specs.Invariant.{RunsAreLawful};
 ghost use Rattle.cvm_model.specs.JournalWords.{JournalsHoldWords};
-ghost use Rattle.cvm_model.specs.PlacesIgnored.{MeaningsIgnorePlaces};
+ghost use Rattle.cvm_model.specs.SpansIgnored.{MeaningsIgnoreSpans};
 ghost use Rattle.cvm_model.specs.Systems.{RunsAreChains};
 
 use crate::{KernelWorld, units_are_kernels, units_dont_matter};
-use c0_meaning::reasoning::{dispatches_ignore_places, units_ignore_places};
+use c0_meaning::reasoning::{dispatches_ignore_spans, units_ignore_spans};
 use c0_meaning::run_laws::{
     calls_are_safe, entries_pass, first_states_are_typed, primitives_alone_change_the_world,
 };
 
-/// A law: what a unit means as a kernel doesn't depend on places in its source.
-pub fn meanings_ignore_places()
-    ensures { MeaningsIgnorePlaces }
+/// A law: what a unit means as a kernel doesn't depend on spans in its source.
+pub fn meanings_ignore_spans()
+    ensures { MeaningsIgnoreSpans }
 {
-    units_ignore_places();
-    dispatches_ignore_places::<KernelWorld>();
+    units_ignore_spans();
+    dispatches_ignore_spans::<KernelWorld>();
 }
 
 /// A law: what the rule for runs rests on, and what is known of the machines in each run.

@@ -40,11 +40,11 @@ pub record CallsMade (whom : Who) (all : ℕ) (before : Tally) (now : ℕ) (blam
   pub which : MadeBy blamed made all
   pub some : blamed ≡ Some whom → 1 ≤ made
 
-abbrev pub Counted : (a : List Call) → (old new : Outside) → (blamed : Option Who) → Type 0
-Counted a old new blamed = CallsMade TheDisk (disk_calls a) (counts old.disk) new.disk.calls blamed
+abbrev pub CountedCalls : (a : List Call) → (old new : Outside) → (blamed : Option Who) → Type 0
+CountedCalls a old new blamed = CallsMade TheDisk (disk_calls a) (counts old.disk) new.disk.calls blamed
 
 abbrev pub ScriptsCount : Type 0
-ScriptsCount = (a : List Call) (old new : Outside) (blamed : Option Who) → Performs a old new blamed → Counted a old new blamed
+ScriptsCount = (a : List Call) (old new : Outside) (blamed : Option Who) → Performs a old new blamed → CountedCalls a old new blamed
 
 abbrev pub ShelfCounted : (a : List Call) → (old new : Outside) → (blamed : Option Who) → Type 0
 ShelfCounted a old new blamed = CallsMade TheShelf (shelf_calls a) (shelf_counts old.shelf) new.shelf.calls blamed
@@ -92,9 +92,9 @@ GetsGiven gives (Stored name bytes ∷ rest) = ⊥
 GetsGiven gives (call ∷ rest) = GetsGiven gives rest
 
 -- what was given is given afterwards, and who gets what is given and puts nothing never blames the shelf
-pub record Given (a : List Call) (old new : Outside) (blamed : Option Who) : Type 0 where
+pub record StaysGiven (a : List Call) (old new : Outside) (blamed : Option Who) : Type 0 where
   pub stays : (name : List ℕ) → old.shelf.gives name ≡ true → new.shelf.gives name ≡ true
   pub sure : GetsGiven old.shelf.gives a → blamed ≢ Some TheShelf
 
 abbrev pub ScriptsGive : Type 0
-ScriptsGive = (a : List Call) (old new : Outside) (blamed : Option Who) → Performs a old new blamed → Given a old new blamed
+ScriptsGive = (a : List Call) (old new : Outside) (blamed : Option Who) → Performs a old new blamed → StaysGiven a old new blamed

@@ -26,8 +26,8 @@ abbrev pub taken_of : MemShelf → ℕ
 taken_of shelf = shelf.taken
 
 -- the bytes of a file, where one was placed
-abbrev pub bytes_of : Option Placed → Option (List ℕ)
-bytes_of file = option_map (λ f. f.bytes) file
+abbrev pub placed_bytes : Option Placed → Option (List ℕ)
+placed_bytes file = option_map (λ f. f.bytes) file
 
 -- what the next call finds under a name: nothing where its number is listed
 abbrev pub found : MemShelf → List ℕ → Option Placed
@@ -55,8 +55,8 @@ is_failed (Ok x) = false
 is_failed (Err fault) = is_failure fault
 
 -- the shelf in memory that a sure one stands on
-abbrev pub inside : SureShelf → MemShelf
-inside shelf = shelf.inner
+abbrev pub shelf_inside : SureShelf → MemShelf
+shelf_inside shelf = shelf.inner
 
 -- the file of a name once bytes were put under it: as before where they have no room in what the call found
 abbrev pub put_over : (found placed : Option Placed) → List ℕ → Option Placed

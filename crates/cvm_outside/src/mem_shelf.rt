@@ -5,7 +5,7 @@ ghost use Rattle.cvm_outside.specs.Causes.{ShelfCounts};
 ghost use Rattle.cvm_outside.specs.Told.{TOO_LONG};
 ghost use Rattle.cvm_outside.specs.Numbering.{fresh, is_listed, numbered_call};
 ghost use Rattle.cvm_outside.specs.Memory.{Placed};
-ghost use Rattle.cvm_outside.specs.Shelves.{placed, calls_of, taken_of, bytes_of, found, lacks_room, replaced, is_failed, is_sure};
+ghost use Rattle.cvm_outside.specs.Shelves.{placed, calls_of, taken_of, placed_bytes, found, lacks_room, replaced, is_failed, is_sure};
 ghost use Rattle.cvm_outside.specs.declared.shelf.ShelfFault.TheVariants.{Failed, TooLong, Memory};
 
 use crate::calls::Calls;
@@ -79,7 +79,7 @@ fn put_file(files: &mut BTreeMap<String, MemFile>, name: &str, bytes: &[u8]) -> 
 }
 
 impl Shelf for MemShelf {
-    ghost file = { λ s n. bytes_of (placed s n) };
+    ghost file = { λ s n. placed_bytes (placed s n) };
 
     ghost taken = { λ s. taken_of s };
 
@@ -97,7 +97,7 @@ impl Shelf for MemShelf {
     /// exactly where there is one of more than 67,108,864 bytes, and want of memory.
     fn get(&mut self, alloc: Global, name: &str) -> Result<Vec<u8>, ShelfFault>
         ensures fails { IsErrOf result Failed ↔ (found self.old name.now ≡ None) }
-        ensures found { IfOk result (λ v. bytes_of (found self.old name.now) ≡ Some v.items) }
+        ensures found { IfOk result (λ v. placed_bytes (found self.old name.now) ≡ Some v.items) }
         ensures too_long { IsErrOf result TooLong ↔ IsSomeAnd (found self.old name.now) (λ f. TOO_LONG ≤ length f.bytes) }
         ensures nothing { IsErrOf result Failed → taken_of self.new ≡ 0 }
         ensures placed { (n : List ℕ) → placed self.new n ≡ placed self.old n }
@@ -105,7 +105,7 @@ impl Shelf for MemShelf {
         ensures all { IfOk result (λ v. length v.items ≡ taken_of self.new) }
         ensures most { taken_of self.new ≤ TOO_LONG }
         ensures long { IsErrOf result TooLong ↔ (taken_of self.new ≡ TOO_LONG) }
-        ensures told_long { IsErrOf result TooLong → IfSome (bytes_of (placed self.old name.now)) (λ bs. taken_of self.new ≡ min (length bs) TOO_LONG) }
+        ensures told_long { IsErrOf result TooLong → IfSome (placed_bytes (placed self.old name.now)) (λ bs. taken_of self.new ≡ min (length bs) TOO_LONG) }
         ensures count { ShelfCounts (calls_of self.old).faults (calls_of self.new).faults result }
         ensures sure { IsErrOf result Failed → is_sure self.old name.now ≡ false }
         ensures given { (n : List ℕ) → is_sure self.old n ≡ true → is_sure self.new n ≡ true }

@@ -10,12 +10,12 @@ use Rattle.cvm_primitives.specs.Routines.{RoutineLaws}
 use Rattle.masm.specs.Says.{Gives, Reads, Widens}
 use Rattle.masm.specs.Laws.{From}
 use Rattle.cvm_primitives.proofs.Forms.{from_straight, from_then, from_when, straight_then}
-use Rattle.page_model.specs.Places.{Places}
+use Rattle.page_model.specs.TableLayout.{TableLayout}
 use Rattle.frame_table.specs.View.{Sited}
-use Rattle.cvm_primitives.specs.View.{UsersIn, WordGood, number, size_at}
+use Rattle.cvm_primitives.specs.View.{UsersIn, WordGood, number_of_word, size_at}
 use Rattle.cvm_primitives.proofs.PartStates.{Quiet}
 use Rattle.cvm_primitives.specs.Code.{first_page_code, check_address_code, check_word_arguments_code}
-use Rattle.cvm_primitives.proofs.Basics.{flag_of, put_other, small_is}
+use Rattle.cvm_primitives.proofs.SharedByRoutines.{flag_of, put_other, small_is}
 
 -- a product's bound
 pub product_below : (k users per : ℕ) → k < users → k * per + per ≤ users * per
@@ -45,9 +45,9 @@ module _ (w : World) (f : RoutineLaws w) where
         ))
 
   -- the tests of vm_word and vm_put: the work is f.handled.passes where u and a are good, and else register 2 is what the bad answer is
-  module _ (p : Places) (b : ℕ) (si : Sited p w) (users per : ℕ) (size : ℕ → ℕ) (v : Pages) where
+  module _ (p : TableLayout) (b : ℕ) (si : Sited p w) (users per : ℕ) (size : ℕ → ℕ) (v : Pages) where
     pub asked_from : (bad m : ℕ) (work : List Inst) (Q : Contents → Behind → Type 0) (c : Contents) (d : Behind) (u a : ℕ) → d.pending ≡ Idle → UsersIn p users per size v c → c.regs 20 ≡ u → c.regs 21 ≡ a → u < 2 ^ 32 → a < 2 ^ 32 → length work ≤ 30000
-        → (WordGood users size u a → (c1 : Contents) (d1 : Behind) → Quiet c d c1 d1 → c1.regs 26 ≡ number per u a → From w work m c1 d1 Q)
+        → (WordGood users size u a → (c1 : Contents) (d1 : Behind) → Quiet c d c1 d1 → c1.regs 26 ≡ number_of_word per u a → From w work m c1 d1 Q)
         → ((WordGood users size u a → ⊥) → (c1 : Contents) (d1 : Behind) → Quiet c d c1 d1 → c1.regs 2 ≡ sum 0 (extended bad) → Q c1 d1)
         → From w (check_word_arguments_code bad users per work) (3 + (8 + (3 + (3 + m) + 1 + 1) + 1)) c d Q
     asked_from bad m work Q c d u a idle us ru ra su sa short does refuse =
@@ -69,7 +69,7 @@ module _ (w : World) (f : RoutineLaws w) where
         from_then w f (first_page_code per) ((Sll 10 10 10 ∷ Srl 9 21 2 ∷ Addu 26 10 9 ∷ []) ++ work) 3 (3 + m) _ d (Based (u - 1) per _ d) Q
         (base_from (u - 1) per (omega arith) most _ d idle (omega arith))
         (λ c1 d1 k. let product = k.product in let r21 = k.regs 21 (omega arith) (omega arith) in let bound = product_below (u - 1) 64 per (omega arith) in let idle1 = ap (λ d. d.pending) k.disk ∙ idle in
-        straight_then w f (Sll 10 10 10 ∷ Srl 9 21 2 ∷ Addu 26 10 9 ∷ []) work (Gives (1024 * ((u - 1) * per)) ∷ Gives (a / 4) ∷ Gives (number per u a) ∷ []) m c1 d1 Q refl idle1
+        straight_then w f (Sll 10 10 10 ∷ Srl 9 21 2 ∷ Addu 26 10 9 ∷ []) work (Gives (1024 * ((u - 1) * per)) ∷ Gives (a / 4) ∷ Gives (number_of_word per u a) ∷ []) m c1 d1 Q refl idle1
         (λ n. (omega arith, (ap (λ z. z / 2 ^ 2) (r21 ∙ ra), (omega arith, tt))))
         (λ n. does good _ d1 (record { memory = k.memory; special = k.special; r22 = k.regs 22 (omega arith) (omega arith); r28 = k.regs 28 (omega arith) (omega arith); r29 = k.regs 29 (omega arith) (omega arith); r30 = k.regs 30 (omega arith) (omega arith); r31 = k.regs 31 (omega arith) (omega arith); disk = k.disk }) refl)))
         (λ z. let odd : 1 ≤ a * 2 ^ 30 % 2 ^ 32 = ⊎_elim (λ o. let o0 = o.0 in absurd (omega arith)) (λ o. o.1) (flag_of (a * 2 ^ 30 % 2 ^ 32) 1) in

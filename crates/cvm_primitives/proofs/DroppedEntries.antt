@@ -11,16 +11,16 @@ use Rattle.masm.specs.Says.{Gives, Reads, Writes}
 use Rattle.masm.specs.Blocks.{when_code}
 use Rattle.masm.specs.Laws.{From}
 use Rattle.cvm_primitives.proofs.Forms.{from_straight, from_then, from_when, from_later}
-use Rattle.page_model.specs.Places.{Places, count_at, paged_view}
+use Rattle.page_model.specs.TableLayout.{TableLayout, count_at, paged_view}
 use Rattle.frame_table.specs.View.{Sited, Relisted}
 use Rattle.cvm_primitives.proofs.PartStates.{Keeps, Found, DropAsked, DropDone}
 use Rattle.frame_table.specs.Code.{walk_page_table_code, user_frame_number_code, remove_mapping_code}
 use Rattle.cvm_primitives.specs.Code.{drop_page_code}
-use Rattle.cvm_primitives.proofs.Basics.{const_is, put_same, put_other, kept_on, edit_is}
+use Rattle.cvm_primitives.proofs.SharedByRoutines.{const_is, put_same, put_other, kept_on, edit_is}
 use Rattle.page_model.specs.Rows.{SameRow}
-use Rattle.cvm_primitives.proofs.Rows.{rows_apart, lists_none, lists_parted}
+use Rattle.cvm_primitives.proofs.FrameLists.{rows_apart, lists_none, lists_parted}
 
-module _ (w : World) (f : RoutineLaws w) (p : Places) (b : ℕ) (si : Sited p w) where
+module _ (w : World) (f : RoutineLaws w) (p : TableLayout) (b : ℕ) (si : Sited p w) where
   pub find_from : (q : ℕ) (c : Contents) (d : Behind) → c.regs 16 ≡ q → q < p.layout.pages → c.memory (p.tables + q) < 2 ^ 32 → d.pending ≡ Idle → From w (walk_page_table_code p) 9 c d (Found p q c d)
   find_from q c d page lt small idle =
       let low = si.low in let first = si.first in let second = si.second in let third = si.third in let words = f.small in

@@ -1,8 +1,8 @@
 -- The users' flat machines as lists of words, by user number from 1.
 use Rattle.std.specs.Prelude.{◌≡◌, ℕ, ◌+◌, ◌-◌, ◌*◌, ◌/◌, ◌%◌, ◌<◌, ◌≤◌, if◌then◌else◌, nat_eq, nat_lt, List, length, take, drop, replicate, ◌++◌, slice_index, slice_set, true}
 use Rattle.page_model.specs.Paging.{PageLayout, Pages}
-use Rattle.cvm_primitives.specs.Copy.{page_word, with_page_word, copied, resized, pieces}
-use Rattle.cvm_primitives.specs.View.{WordGood, CopyArgs, ResizeGood, number}
+use Rattle.cvm_primitives.specs.Copy.{word_of_pages, with_page_word, copied, pages_after_resize, piece_count}
+use Rattle.cvm_primitives.specs.View.{WordGood, CopyArgs, ResizeGood, number_of_word}
 
 -- the users' memories by page: sizes and memories by user number from 1, with up to per pages each
 abbrev pub flat_of : ℕ → (ℕ → ℕ) → (ℕ → List ℕ) → Pages
@@ -37,8 +37,8 @@ pub record Lists (users per : ℕ) (size : ℕ → ℕ) (memory : ℕ → List �
 -- WHAT THE NUMBERS SAY OF THE LISTS
 pub record InLists (l : PageLayout) (users per : ℕ) (size : ℕ → ℕ) (memory : ℕ → List ℕ) : Type 0 where
   pub live : (u i : ℕ) → 0 < u → u ≤ users → i < per → (flat_of per size memory).live ((u - 1) * per + i) ≡ nat_lt i (size u)
-  pub word : (u a : ℕ) → WordGood users size u a → page_word (flat_of per size memory) (number per u a) ≡ slice_index (memory u) (a / 4)
-  pub put : (u a x : ℕ) → WordGood users size u a → Same l (with_page_word (flat_of per size memory) (number per u a) x) (flat_of per size (replaced memory u (slice_set (memory u) (a / 4) x)))
-  pub copy : (u a t s n : ℕ) → CopyArgs users size u a t s n → Same l (copied (flat_of per size memory) (number per u a) (number per t s) n) (flat_of per size (replaced memory t (put_words (memory t) (s / 4) (memory u) (a / 4) n)))
-  pub pieces : (u a t s n : ℕ) → pieces (number per u a) (number per t s) n ≡ pieces (a / 4) (s / 4) n
-  pub resize : (u new : ℕ) → ResizeGood users per u new → Same l (resized (flat_of per size memory) ((u - 1) * per) (size u) new) (flat_of per (replaced size u new) (replaced memory u (sized (memory u) new)))
+  pub word : (u a : ℕ) → WordGood users size u a → word_of_pages (flat_of per size memory) (number_of_word per u a) ≡ slice_index (memory u) (a / 4)
+  pub put : (u a x : ℕ) → WordGood users size u a → Same l (with_page_word (flat_of per size memory) (number_of_word per u a) x) (flat_of per size (replaced memory u (slice_set (memory u) (a / 4) x)))
+  pub copy : (u a t s n : ℕ) → CopyArgs users size u a t s n → Same l (copied (flat_of per size memory) (number_of_word per u a) (number_of_word per t s) n) (flat_of per size (replaced memory t (put_words (memory t) (s / 4) (memory u) (a / 4) n)))
+  pub pieces : (u a t s n : ℕ) → piece_count (number_of_word per u a) (number_of_word per t s) n ≡ piece_count (a / 4) (s / 4) n
+  pub resize : (u new : ℕ) → ResizeGood users per u new → Same l (pages_after_resize (flat_of per size memory) ((u - 1) * per) (size u) new) (flat_of per (replaced size u new) (replaced memory u (sized (memory u) new)))

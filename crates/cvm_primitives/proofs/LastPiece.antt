@@ -10,18 +10,18 @@ use Rattle.masm.specs.Says.{Gives}
 use Rattle.masm.specs.Blocks.{loop_code}
 use Rattle.masm.specs.Laws.{LoopRuns, From}
 use Rattle.cvm_primitives.proofs.Forms.{from_straight, from_later}
-use Rattle.cvm_primitives.specs.Copy.{copied, pieces, piece, copy_cost}
-use Rattle.page_model.specs.Places.{Places}
+use Rattle.cvm_primitives.specs.Copy.{copied, piece_count, piece, copy_cost}
+use Rattle.page_model.specs.TableLayout.{TableLayout}
 use Rattle.frame_table.specs.View.{Sited}
 use Rattle.page_fault.specs.Asked.{PageBlock}
-use Rattle.cvm_primitives.specs.View.{page_steps, PagesHeld, Marks, CopyGood, UsersIn, CopyArgs, EntryState, number, entry_state}
+use Rattle.cvm_primitives.specs.View.{steps_of_page, PagesHeld, Marks, CopyGood, UsersIn, CopyArgs, EntryState, number_of_word, entry_state}
 use Rattle.cvm_primitives.specs.Sharing.{EndsWhole, LastShared, LastPieceShares}
 use Rattle.cvm_primitives.proofs.PartStates.{PieceLaw}
 use Rattle.cvm_primitives.specs.Code.{piece_code, copies_code, pieces_code, vm_copy_code}
-use Rattle.cvm_primitives.proofs.Basics.{held_to}
+use Rattle.cvm_primitives.proofs.SharedByRoutines.{held_to}
 use Rattle.cvm_primitives.proofs.Pieces.{Fits, fits}
-use Rattle.cvm_primitives.proofs.Loop.{Copying, held_on, nothing_copied, copied_on, whole_cost, rest_good, turn, pays}
-use Rattle.cvm_primitives.proofs.Piece.{piece_law, piece_paid, piece_short, run_short}
+use Rattle.cvm_primitives.proofs.CopyLoop.{Copying, held_on, nothing_copied, copied_on, whole_cost, rest_good, turn, pays}
+use Rattle.cvm_primitives.proofs.OnePiece.{piece_law, piece_paid, piece_short, run_short}
 use Rattle.cvm_primitives.proofs.Copies.{numbers_apart, live_range, range_below, copy_asked_from}
 
 -- before the last page a piece copies no word of it
@@ -51,7 +51,7 @@ from_places : (w : World) (is : List Inst) (n : ℕ) (c0 : Contents) (d0 : Behin
     → ((k : ℕ) → CodeAt w k is → (c' : Contents) × (d' : Behind) × Q c' d' × Reaches w n (at_with k c0 d0) (at_with (k + length is) c' d')) → From w is n c0 d0 Q
 from_places w is n c0 d0 Q h = record { by = λ k c d at e. let x = h k at in (x.0, x.1, x.2, same_start w c0 c x.0 d0 d x.1 n k (k + length is) e x.3) }
 
-module _ (w : World) (f : RoutineLaws w) (p : Places) (b : ℕ) (si : Sited p w) (page : PageBlock w p b) (g : EntryState) (v : Pages) (x y n : ℕ) (good : CopyGood p.layout v x y n) (whole : EndsWhole x y n) where
+module _ (w : World) (f : RoutineLaws w) (p : TableLayout) (b : ℕ) (si : Sited p w) (page : PageBlock w p b) (g : EntryState) (v : Pages) (x y n : ℕ) (good : CopyGood p.layout v x y n) (whole : EndsWhole x y n) where
   abbrev body : List Inst
   body = piece_code p page.code
 
@@ -65,7 +65,7 @@ module _ (w : World) (f : RoutineLaws w) (p : Places) (b : ℕ) (si : Sited p w)
   Left m c d = Copying w f p b body body_short g law v x y n good m c d
 
   abbrev cost : ℕ → ℕ
-  cost m = copy_cost (page_steps p.layout.pages b) x y n m
+  cost m = copy_cost (steps_of_page p.layout.pages b) x y n m
 
   abbrev size : ℕ → ℕ
   size m = piece (x + m) (y + m) (n - m)
@@ -95,7 +95,7 @@ module _ (w : World) (f : RoutineLaws w) (p : Places) (b : ℕ) (si : Sited p w)
   }
 
   one_turn : (k m : ℕ) (c : Contents) (d : Behind) → CodeAt w k (loop_code [] 14 body) → m < n → Left m c d
-      → (c' : Contents) × (d' : Behind) × Left (m + size m) c' d' × Reaches w (0 + (3 * page_steps p.layout.pages b + 600 * size m - 2) + 2) (at_with k c d) (at_with k c' d')
+      → (c' : Contents) × (d' : Behind) × Left (m + size m) c' d' × Reaches w (0 + (3 * steps_of_page p.layout.pages b + 600 * size m - 2) + 2) (at_with k c d) (at_with k c' d')
   one_turn k m c d at lt s =
       let r = (turn w f p b body body_short g law v x y n good m lt).by (k + 0 + 1) c d (laws.body_stands k at) s in
       (r.0, r.1, r.2, laws.turns k 0 _ c d c d r.0 r.1 at (f.runs.empty w k c d) s.held.idle (λ z. let left = s.marks.left in absurd (omega arith)) r.3 r.2.held.idle)
@@ -113,7 +113,7 @@ module _ (w : World) (f : RoutineLaws w) (p : Places) (b : ℕ) (si : Sited p w)
         last = u.last;
         disk = u.disk;
         left = u.left;
-        steps = 0 + (3 * page_steps p.layout.pages b + 600 * size m - 2) + 2 + u.steps;
+        steps = 0 + (3 * steps_of_page p.layout.pages b + 600 * size m - 2) + 2 + u.steps;
         paid = omega arith;
         first = λ one. absurd (omega arith);
         comes = f.runs.joined w _ u.steps _ _ _ r.3 u.comes;
@@ -134,7 +134,7 @@ module _ (w : World) (f : RoutineLaws w) (p : Places) (b : ℕ) (si : Sited p w)
     pub shared : LastShared p x y n end last.memory
     pub steps : ℕ
     pub more : ℕ
-    pub within : steps + more ≤ 3 * page_steps p.layout.pages b * pieces x y n + 600 * n + 1
+    pub within : steps + more ≤ 3 * steps_of_page p.layout.pages b * piece_count x y n + 600 * n + 1
     pub comes : Reaches w steps (at_with k c d) (at_with k last disk)
     pub ends : Reaches w more (at_with k last disk) (at_with (k + length (loop_code [] 14 body)) end end_disk)
 
@@ -149,9 +149,9 @@ module _ (w : World) (f : RoutineLaws w) (p : Places) (b : ℕ) (si : Sited p w)
       let held : PagesHeld p (copied v x y n) g run.0 run.1 = subst (λ k. PagesHeld p (copied v x y k) g run.0 run.1) (omega arith) (held_on p _ _ g run.0 run.1 (copied_on p.layout v x y n (n - 1024) (size (n - 1024)) good.apart (omega arith)) run.2.0) in
       let gone = run.2.1.left in
       let price = pays w f p b body body_short g law v x y n good (n - 1024) (omega arith) in
-      let start_cost = whole_cost (page_steps p.layout.pages b) x y n in
+      let start_cost = whole_cost (steps_of_page p.layout.pages b) x y n in
       let paid = a.paid in
-      let back : Reaches w (0 + (3 * page_steps p.layout.pages b + 600 * size (n - 1024) - 2) + 2) (at_with k a.last a.disk) (at_with k run.0 run.1) = laws.turns k 0 _ a.last a.disk a.last a.disk run.0 run.1 at (f.runs.empty w k a.last a.disk) a.left.held.idle (λ z. absurd (omega arith)) run.3 held.idle in
+      let back : Reaches w (0 + (3 * steps_of_page p.layout.pages b + 600 * size (n - 1024) - 2) + 2) (at_with k a.last a.disk) (at_with k run.0 run.1) = laws.turns k 0 _ a.last a.disk a.last a.disk run.0 run.1 at (f.runs.empty w k a.last a.disk) a.left.held.idle (λ z. absurd (omega arith)) run.3 held.idle in
       record {
         last = a.last;
         disk = a.disk;
@@ -163,7 +163,7 @@ module _ (w : World) (f : RoutineLaws w) (p : Places) (b : ℕ) (si : Sited p w)
         done = held;
         shared = run.2.2 is;
         steps = a.steps;
-        more = 0 + (3 * page_steps p.layout.pages b + 600 * size (n - 1024) - 2) + 2 + (0 + 1);
+        more = 0 + (3 * steps_of_page p.layout.pages b + 600 * size (n - 1024) - 2) + 2 + (0 + 1);
         within = omega arith;
         comes = a.comes;
         ends = f.runs.joined w _ (0 + 1) _ _ _ back (laws.ends k 0 run.0 run.1 run.0 run.1 at (f.runs.empty w k run.0 run.1) held.idle (omega arith));
@@ -175,19 +175,19 @@ module _ (w : World) (f : RoutineLaws w) (p : Places) (b : ℕ) (si : Sited p w)
       last_turn k c d at (comes_on n k 0 c d at (omega arith) (omega arith) (record { held = held_on p _ _ g c d (nothing_copied p.layout v x y) held; most = omega arith; marks = record { from = omega arith; to = omega arith; left = omega arith } }))
 
 -- VM_COPY whose last piece is a whole page
-module _ (w : World) (f : RoutineLaws w) (p : Places) (b : ℕ) (si : Sited p w) (page : PageBlock w p b) (users per : ℕ) (size : ℕ → ℕ) (v : Pages) (c : Contents) (d : Behind) (held : PagesHeld p v (entry_state c d) c d) (us : UsersIn p users per size v c) (u a v' b' n : ℕ)
+module _ (w : World) (f : RoutineLaws w) (p : TableLayout) (b : ℕ) (si : Sited p w) (page : PageBlock w p b) (users per : ℕ) (size : ℕ → ℕ) (v : Pages) (c : Contents) (d : Behind) (held : PagesHeld p v (entry_state c d) c d) (us : UsersIn p users per size v c) (u a v' b' n : ℕ)
     (ru : c.regs 20 ≡ u) (ra : c.regs 21 ≡ a) (rv : c.regs 22 ≡ v') (rb : c.regs 23 ≡ b') (rn : c.regs 24 ≡ n) (su : u < 2 ^ 32) (sa : a < 2 ^ 32) (sv : v' < 2 ^ 32) (sb : b' < 2 ^ 32) (sn : n < 2 ^ 32) where
   abbrev from_word : ℕ
-  from_word = number per u a
+  from_word = number_of_word per u a
 
   abbrev to_word : ℕ
-  to_word = number per v' b'
+  to_word = number_of_word per v' b'
 
   abbrev loop_steps : ℕ
-  loop_steps = 3 * page_steps p.layout.pages b * pieces from_word to_word n + 600 * n + 1
+  loop_steps = 3 * steps_of_page p.layout.pages b * piece_count from_word to_word n + 600 * n + 1
 
   abbrev all_steps : ℕ
-  all_steps = 598 + 600 * n + page_steps p.layout.pages b * (3 * pieces from_word to_word n)
+  all_steps = 598 + 600 * n + steps_of_page p.layout.pages b * (3 * piece_count from_word to_word n)
 
   abbrev Told : Contents → Behind → Type 0
   Told c' d' = (PagesHeld p (copied v from_word to_word n) (entry_state c d) c' d' × (c'.regs 2 ≡ 1)) × LastPieceShares w p page.code v from_word to_word n all_steps c d c' d'
@@ -236,6 +236,6 @@ module _ (w : World) (f : RoutineLaws w) (p : Places) (b : ℕ) (si : Sited p w)
       (λ nay c1 d1 m s r28 r29 r30 r31 r2 e. absurd (nay good)))
 
 -- the same by another name of the page-fault block's code
-pub told_again : (w : World) (p : Places) (users per : ℕ) (v : Pages) (x y n steps : ℕ) (c : Contents) (d : Behind) (A : Contents → Behind → Type 0) (code code' : List Inst) → code ≡ code'
+pub told_again : (w : World) (p : TableLayout) (users per : ℕ) (v : Pages) (x y n steps : ℕ) (c : Contents) (d : Behind) (A : Contents → Behind → Type 0) (code code' : List Inst) → code ≡ code'
     → From w (vm_copy_code p users per code) steps c d (λ c' d'. A c' d' × LastPieceShares w p code v x y n steps c d c' d') → From w (vm_copy_code p users per code') steps c d (λ c' d'. A c' d' × LastPieceShares w p code' v x y n steps c d c' d')
 told_again w p users per v x y n steps c d A code code' e h = subst (λ code. From w (vm_copy_code p users per code) steps c d (λ c' d'. A c' d' × LastPieceShares w p code v x y n steps c d c' d')) e h

@@ -7,14 +7,14 @@ use Rattle.page_model.specs.Paging.{IsUserFrame, IsFrame, MapsTo, Pages, IsAcces
 use Rattle.page_model.specs.Edits.{Retargeted}
 use Rattle.page_model.specs.Faults.{Brought}
 use Rattle.page_model.specs.Rows.{InList}
-use Rattle.page_model.specs.Places.{Places, count_at, frames_end, paged_view}
+use Rattle.page_model.specs.TableLayout.{TableLayout, count_at, frames_end, paged_view}
 use Rattle.cvm_primitives.specs.Copy.{copied, Apart, piece}
-use Rattle.cvm_primitives.specs.View.{page_steps, EntryState, PagesHeld, Marks, CopyGood}
+use Rattle.cvm_primitives.specs.View.{steps_of_page, EntryState, PagesHeld, Marks, CopyGood}
 
 -- a turn of vm_copy: one piece
-abbrev pub PieceLaw : World → Places → ℕ → List Inst → EntryState → Type 0
+abbrev pub PieceLaw : World → TableLayout → ℕ → List Inst → EntryState → Type 0
 PieceLaw w p b code g = (u : Pages) (x y n : ℕ) → 0 < n → CopyGood p.layout u x y n
-    → Does w code (3 * page_steps p.layout.pages b + 600 * piece x y n - 2) (λ c d. PagesHeld p u g c d × Marks x y n c)
+    → Does w code (3 * steps_of_page p.layout.pages b + 600 * piece x y n - 2) (λ c d. PagesHeld p u g c d × Marks x y n c)
     (λ c d. PagesHeld p (copied u x y (piece x y n)) g c d × Marks (x + piece x y n) (y + piece x y n) (n - piece x y n) c)
 
 -- the registers that hold what a primitive has in hand stay, and the special registers
@@ -32,7 +32,7 @@ pub record Keeps (c0 c : Contents) : Type 0 where
   pub special : c.special ≡ c0.special
 
 -- FIND: the entry e of page q
-pub record Found (p : Places) (q : ℕ) (c0 : Contents) (d0 : Behind) (c : Contents) (d : Behind) : Type 0 where
+pub record Found (p : TableLayout) (q : ℕ) (c0 : Contents) (d0 : Behind) (c : Contents) (d : Behind) : Type 0 where
   pub entry : c.regs 20 ≡ 4 * (p.tables + q)
   pub named : c.regs 21 ≡ c0.memory (p.tables + q) / 4096
   pub valid : c.regs 24 ≡ c0.memory (p.tables + q) / 2048 % 2
@@ -41,7 +41,7 @@ pub record Found (p : Places) (q : ℕ) (c0 : Contents) (d0 : Behind) (c : Conte
   pub disk : d ≡ d0
 
 -- DROP: what is asked, and what is done
-pub record DropAsked (p : Places) (q : ℕ) (c : Contents) (d : Behind) : Type 0 where
+pub record DropAsked (p : TableLayout) (q : ℕ) (c : Contents) (d : Behind) : Type 0 where
   pub page : c.regs 16 ≡ q
   pub inside : q < p.layout.pages
   pub small : (x : ℕ) → x < p.layout.pages → c.memory (p.tables + x) < 2 ^ 32
@@ -50,7 +50,7 @@ pub record DropAsked (p : Places) (q : ℕ) (c : Contents) (d : Behind) : Type 0
   pub list : (f : ℕ) → IsUserFrame p.layout f → MapsTo (c.memory (p.tables + q)) f → (k : ℕ) × InList p q f k c.memory
   pub idle : d.pending ≡ Idle
 
-pub record DropDone (p : Places) (q : ℕ) (c0 : Contents) (d0 : Behind) (c : Contents) (d : Behind) : Type 0 where
+pub record DropDone (p : TableLayout) (q : ℕ) (c0 : Contents) (d0 : Behind) (c : Contents) (d : Behind) : Type 0 where
   pub gone : c.memory (p.tables + q) / 2048 % 2 ≡ 0
   pub edit : Retargeted p.layout q (c.memory (p.tables + q)) (paged_view p c0.memory d0.sectors) (paged_view p c.memory d.sectors)
   pub low : (x : ℕ) → x < p.tables → c.memory x ≡ c0.memory x
@@ -67,7 +67,7 @@ pub record Moved (a b n : ℕ) (c0 : Contents) (d0 : Behind) (c : Contents) (d :
   pub disk : d ≡ d0
 
 -- LOCATE
-pub record Located (p : Places) (z : ℕ) (c0 : Contents) (d0 : Behind) (c : Contents) (d : Behind) : Type 0 where
+pub record Located (p : TableLayout) (z : ℕ) (c0 : Contents) (d0 : Behind) (c : Contents) (d : Behind) : Type 0 where
   pub address : c.regs 8 ≡ 4 * (1024 * (c0.memory (p.tables + z / 1024) / 4096) + z % 1024)
   pub r1 : c.regs 1 ≡ c0.regs 1
   pub memory : c.memory ≡ c0.memory
@@ -75,14 +75,14 @@ pub record Located (p : Places) (z : ℕ) (c0 : Contents) (d0 : Behind) (c : Con
   pub disk : d ≡ d0
 
 -- a page was brought in
-pub record Came (p : Places) (u : Pages) (g : EntryState) (q : ℕ) (store : Bool) (c0 : Contents) (d0 : Behind) (c : Contents) (d : Behind) : Type 0 where
+pub record Came (p : TableLayout) (u : Pages) (g : EntryState) (q : ℕ) (store : Bool) (c0 : Contents) (d0 : Behind) (c : Contents) (d : Behind) : Type 0 where
   pub held : PagesHeld p u g c d
   pub brought : Brought p.layout q store (paged_view p c0.memory d0.sectors) (paged_view p c.memory d.sectors)
   pub stays : IsAccessible (paged_view p c0.memory d0.sectors) q store → c.memory (p.tables + q) ≡ c0.memory (p.tables + q)
   pub keeps : Keeps c0 c
 
 -- the pages of words x and y can be read and stored to
-pub record BothIn (p : Places) (u : Pages) (g : EntryState) (x y : ℕ) (c0 : Contents) (c : Contents) (d : Behind) : Type 0 where
+pub record BothIn (p : TableLayout) (u : Pages) (g : EntryState) (x y : ℕ) (c0 : Contents) (c : Contents) (d : Behind) : Type 0 where
   pub held : PagesHeld p u g c d
   pub source : IsAccessible (paged_view p c.memory d.sectors) (x / 1024) false
   pub target : IsAccessible (paged_view p c.memory d.sectors) (y / 1024) true

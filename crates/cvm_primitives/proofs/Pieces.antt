@@ -1,7 +1,7 @@
 -- Pieces: their number, and how a copy goes on by one of them.
 use Rattle.std.proofs.Common.{◌≡◌, ◌≢◌, ℕ, zero, suc, ◌+◌, ◌-◌, ◌%◌, ◌<◌, ◌≤◌, ◌⊎◌, Bool, true, false, cond, nat_eq, nat_lt, refl, sym, ap, ap₂, ◌∙◌, ⊎_elim, inl, inr, arith, lt-ltb, le-ltb, eq-eqb, ne_eqb}
 use Rattle.std.proofs.lemmas.Bool.{cases_eq, cases_lt, cond-true, cond-false}
-use Rattle.cvm_primitives.specs.Copy.{begins_piece, pieces, least, piece}
+use Rattle.cvm_primitives.specs.Copy.{begins_piece, piece_count, least, piece}
 
 pub least_either : (a b : ℕ) → ((least a b ≡ a) × (a < b)) ⊎ ((least a b ≡ b) × (b ≤ a))
 least_either a b = ⊎_elim (λ lt. inl (cond-true (nat_lt a b) a b (lt-ltb a b lt), lt)) (λ le. inr (cond-false (nat_lt a b) a b (le-ltb a b le), le)) (cases_lt a b)
@@ -47,10 +47,10 @@ at_page x y j o = ⊎_elim
     same false u v h k = k
 
 -- the first piece is one
-one_piece : (x y l j : ℕ) → x % 1024 + l ≤ 1024 → y % 1024 + l ≤ 1024 → 0 < j → j ≤ l → pieces x y j ≡ 1
+one_piece : (x y l j : ℕ) → x % 1024 + l ≤ 1024 → y % 1024 + l ≤ 1024 → 0 < j → j ≤ l → piece_count x y j ≡ 1
 one_piece x y l zero s t pos le = absurd (omega arith)
 one_piece x y l (suc j) s t pos le = ⊎_elim
-    (λ e. ap (λ k. pieces x y k + begins_piece x y k) e)
+    (λ e. ap (λ k. piece_count x y k + begins_piece x y k) e)
     (λ ne. let r = one_piece x y l j s t (omega arith) (omega arith) in let b = inner x y j (omega arith) (omega arith) (omega arith) in omega arith)
     (cases_eq j 0)
 
@@ -63,21 +63,21 @@ shifted x y l (suc j) o pos =
     cond-false (nat_eq (l + suc j) 0) 1 _ (ne_eqb _ 0 (omega arith)) ∙ ap₂ (λ u v. cond (nat_eq (u % 1024) 0) 1 (cond (nat_eq (v % 1024) 0) 1 0)) e g
     ∙ sym (cond-false (nat_eq (suc j) 0) 1 _ (ne_eqb _ 0 (omega arith)))
 
-rest_pieces : (x y l m : ℕ) → (0 < m → ((x + l) % 1024 ≡ 0) ⊎ ((y + l) % 1024 ≡ 0)) → 0 < l → pieces x y l ≡ 1 → pieces x y (l + m) ≡ 1 + pieces (x + l) (y + l) m
-rest_pieces x y l zero o pos h = let e : l + 0 ≡ l = omega arith in ap (pieces x y) e ∙ h
+rest_pieces : (x y l m : ℕ) → (0 < m → ((x + l) % 1024 ≡ 0) ⊎ ((y + l) % 1024 ≡ 0)) → 0 < l → piece_count x y l ≡ 1 → piece_count x y (l + m) ≡ 1 + piece_count (x + l) (y + l) m
+rest_pieces x y l zero o pos h = let e : l + 0 ≡ l = omega arith in ap (piece_count x y) e ∙ h
 rest_pieces x y l (suc m) o pos h =
     let e : l + suc m ≡ suc (l + m) = omega arith in
     let r = rest_pieces x y l m (λ lt. o (omega arith)) pos h in
     let b = shifted x y l m (o (omega arith)) pos in
-    let k : pieces x y (l + suc m) ≡ pieces x y (l + m) + begins_piece x y (l + m) = ap (pieces x y) e in
+    let k : piece_count x y (l + suc m) ≡ piece_count x y (l + m) + begins_piece x y (l + m) = ap (piece_count x y) e in
     omega arith
 
 -- THE NUMBER OF PIECES goes down by one
-pub pieces_step : (x y n : ℕ) → 0 < n → pieces x y n ≡ 1 + pieces (x + piece x y n) (y + piece x y n) (n - piece x y n)
+pub pieces_step : (x y n : ℕ) → 0 < n → piece_count x y n ≡ 1 + piece_count (x + piece x y n) (y + piece x y n) (n - piece x y n)
 pieces_step x y n pos = by (piece x y n) (fits x y n pos)
   where
-    by : (l : ℕ) → Fits x y n l → pieces x y n ≡ 1 + pieces (x + l) (y + l) (n - l)
+    by : (l : ℕ) → Fits x y n l → piece_count x y n ≡ 1 + piece_count (x + l) (y + l) (n - l)
     by l t =
         let some = t.some in let most = t.most in
         let e : n ≡ l + (n - l) = omega arith in
-        ap (pieces x y) e ∙ rest_pieces x y l (n - l) (λ lt. t.end (omega arith)) t.some (one_piece x y l l t.source t.target t.some (omega arith))
+        ap (piece_count x y) e ∙ rest_pieces x y l (n - l) (λ lt. t.end (omega arith)) t.some (one_piece x y l l t.source t.target t.some (omega arith))

@@ -18,7 +18,7 @@ use Rattle.c0_meaning.specs.Value.{bool}
 use Rattle.cvm_model.specs.Kernel.{Set, flat}
 use Rattle.cvm_model.specs.Primitives.{no_flat, KernelCall, ConGet, ConLeft, Given, user_of, with_user, pages_of, register_of, with_register, is_within, is_good, unchanged, changed, refused, granted, prim}
 use Rattle.cvm_primitives.specs.RegisterCode.{check_user_code, is_register_code, find_word_code, check_arguments_code, vm_get_code, vm_set_code, vm_size_code, con_put_code, con_get_code, con_left_code}
-use Rattle.cvm_primitives.specs.Blocks.{word_of, IsOneOf, BlocksHold, console_of, EnteredOnBlocks, LeftByCall}
+use Rattle.cvm_primitives.specs.Blocks.{block_word, IsOneOf, BlocksHold, console_of, EnteredOnBlocks, LeftByCall}
 use Rattle.cvm_primitives.specs.RegisterLaws.{get_call, set_call, size_call, put_call}
 use Rattle.cvm_primitives.proofs.RegisterForms.{CodeLaws, within, straightly, straightly_then, conditionally}
 use Rattle.cvm_primitives.proofs.RegisterNumbers.{small_is, put_same, put_other, flag_of, word_in, word_out, as_word}
@@ -61,19 +61,19 @@ set_words users u g o same v =
     (cases_eq (v - 1) (u - 1))
 
 -- the blocks hold the users once a register is set
-blocks_set : (users : List Flat) (m : ℕ → ℕ) (u r x : ℕ) → BlocksHold users m → IsOneOf users u → 1 ≤ r → r ≤ 32 → length (user_of users u).cpu.regs ≡ 32 → BlocksHold (with_user users u (with_register (user_of users u) r x)) (put m (word_of u r) x)
+blocks_set : (users : List Flat) (m : ℕ → ℕ) (u r x : ℕ) → BlocksHold users m → IsOneOf users u → 1 ≤ r → r ≤ 32 → length (user_of users u).cpu.regs ≡ 32 → BlocksHold (with_user users u (with_register (user_of users u) r x)) (put m (block_word u r) x)
 blocks_set users m u r x h o r1 r2 len =
     let o0 = o.0 in
     let count = length-set users (u - 1) (with_register (user_of users u) r x) in
     let one : (v : ℕ) → IsOneOf (with_user users u (with_register (user_of users u) r x)) v → IsOneOf users v = λ v p. let p1 = p.1 in (p.0, omega arith) in
-    let others : (z : ℕ) → z ≢ word_of u r → put m (word_of u r) x z ≡ m z = λ z ne. put_other m (word_of u r) x z ne in
+    let others : (z : ℕ) → z ≢ block_word u r → put m (block_word u r) x z ≡ m z = λ z ne. put_other m (block_word u r) x z ne in
     record {
       registers = λ v s p s1 s2. let p0 = p.0 in ⊎_elim
-          (λ e. subst (λ v. put m (word_of u r) x (word_of v s) ≡ register_of (user_of (with_user users u (with_register (user_of users u) r x)) v) s) (sym e) (⊎_elim
-          (λ q. subst (λ s. put m (word_of u r) x (word_of u s) ≡ register_of (user_of (with_user users u (with_register (user_of users u) r x)) u) s) (sym q) (put_same m (word_of u r) x (word_of u r) refl ∙ sym (set_same (user_of users u) r x len r2) ∙ ap (λ g. register_of g r) (sym (user_same users u _ o))))
-          (λ q. others (word_of u s) (omega arith) ∙ h.registers u s o s1 s2 ∙ sym (set_other (user_of users u) r x s q) ∙ ap (λ g. register_of g s) (sym (user_same users u _ o)))
+          (λ e. subst (λ v. put m (block_word u r) x (block_word v s) ≡ register_of (user_of (with_user users u (with_register (user_of users u) r x)) v) s) (sym e) (⊎_elim
+          (λ q. subst (λ s. put m (block_word u r) x (block_word u s) ≡ register_of (user_of (with_user users u (with_register (user_of users u) r x)) u) s) (sym q) (put_same m (block_word u r) x (block_word u r) refl ∙ sym (set_same (user_of users u) r x len r2) ∙ ap (λ g. register_of g r) (sym (user_same users u _ o))))
+          (λ q. others (block_word u s) (omega arith) ∙ h.registers u s o s1 s2 ∙ sym (set_other (user_of users u) r x s q) ∙ ap (λ g. register_of g s) (sym (user_same users u _ o)))
           (cases_eq s r)))
-          (λ ne. others (word_of v s) (omega arith) ∙ h.registers v s (one v p) s1 s2 ∙ ap (λ g. register_of g s) (sym (user_other users u v _ o0 p0 ne)))
+          (λ ne. others (block_word v s) (omega arith) ∙ h.registers v s (one v p) s1 s2 ∙ ap (λ g. register_of g s) (sym (user_other users u v _ o0 p0 ne)))
           (cases_eq v u);
       sizes = λ v p. let p0 = p.0 in others (block_at v + 32) (omega arith) ∙ h.sizes v (one v p) ∙ ⊎_elim
           (λ e. subst (λ v. pages_of (user_of users v) ≡ pages_of (user_of (with_user users u (with_register (user_of users u) r x)) v)) (sym e) (ap pages_of (sym (user_same users u (with_register (user_of users u) r x) o))))
@@ -97,7 +97,7 @@ abbrev register_says : ℕ → List Says
 register_says r = Gives ((r + 4294967295) % 2 ^ 32) ∷ Gives (flag (nat_lt ((r + 4294967295) % 2 ^ 32) 32)) ∷ []
 
 abbrev place_says : (u r : ℕ) → List Says
-place_says u r = Gives 49152 ∷ Gives (256 * (u - 1)) ∷ Gives (4 * block_at u) ∷ Gives (r * 2 ^ 27 % 2 ^ 32) ∷ Gives (4 * (r % 32)) ∷ Gives (4 * word_of u r) ∷ []
+place_says u r = Gives 49152 ∷ Gives (256 * (u - 1)) ∷ Gives (4 * block_at u) ∷ Gives (r * 2 ^ 27 % 2 ^ 32) ∷ Gives (4 * (r % 32)) ∷ Gives (4 * block_word u r) ∷ []
 
 abbrev size_says : (u size : ℕ) → List Says
 size_says u size = Gives 49280 ∷ Gives (256 * (u - 1)) ∷ Gives (4 * (block_at u + 32)) ∷ Reads (block_at u + 32) size ∷ []
@@ -169,7 +169,7 @@ module _ (w : World) (f : CodeLaws w) (users : List Flat) (c : Contents) (d : Be
 
     -- the user and the register are tested, and the register's word is found
     asked_from : (m : ℕ) (work : List Inst) → length work ≤ 1000 → (is_within 1 (length users) (signed (c.regs 20)) && is_within 1 32 (signed (c.regs 21)) ≡ true → nat_abs (signed (c.regs 20)) ≡ c.regs 20 → nat_abs (signed (c.regs 21)) ≡ c.regs 21 → IsOneOf users (c.regs 20) → 1 ≤ c.regs 21 → c.regs 21 ≤ 32
-        → (c1 : Contents) → Quiet c c1 → c1.regs 11 ≡ 4 * word_of (c.regs 20) (c.regs 21) → From w work m c1 d Q)
+        → (c1 : Contents) → Quiet c c1 → c1.regs 11 ≡ 4 * block_word (c.regs 20) (c.regs 21) → From w work m c1 d Q)
         → (is_within 1 (length users) (signed (c.regs 20)) && is_within 1 32 (signed (c.regs 21)) ≡ false → (c1 : Contents) → Quiet c c1 → c1.regs 2 ≡ sum 0 (extended bad) → Q c1 d)
         → From w (check_arguments_code bad (length users) work) (3 + (2 + (6 + m + 1) + 1)) c d Q
     asked_from m work short does refuse =
@@ -193,7 +193,7 @@ module _ (w : World) (f : CodeLaws w) (users : List Flat) (c : Contents) (d : Be
         (λ nay c1 q r2. refuse (ap (λ b. b && is_within 1 32 (signed (c.regs 21))) nay) c1 q r2)
 
   -- a word of a control block lies in memory
-  block_in : IsOneOf users (c.regs 20) → c.regs 21 ≤ 32 → word_of (c.regs 20) (c.regs 21) < 16384
+  block_in : IsOneOf users (c.regs 20) → c.regs 21 ≤ 32 → block_word (c.regs 20) (c.regs 21) < 16384
   block_in one le = let o0 = one.0 in let o1 = one.1 in let few = e.few in omega arith
 
   -- VM_GET
@@ -203,11 +203,11 @@ module _ (w : World) (f : CodeLaws w) (users : List Flat) (c : Contents) (d : Be
       (asked_from (LeftByCall users (prim most (get_call c) users (console_of d)) c d) 65535 1 (Lw 2 11 0 ∷ []) (omega arith)
       (λ good eu er one r1 r32 c1 q at. let inside = e.inside in let small = f.small in let top = block_in one r32 in
       let held = e.blocks.registers (c.regs 20) (c.regs 21) one r1 r32 in
-      straightly w f (Lw 2 11 0 ∷ []) (Reads (word_of (c.regs 20) (c.regs 21)) (register_of (user_of users (c.regs 20)) (c.regs 21)) ∷ []) c1 d _ refl e.idle
+      straightly w f (Lw 2 11 0 ∷ []) (Reads (block_word (c.regs 20) (c.regs 21)) (register_of (user_of users (c.regs 20)) (c.regs 21)) ∷ []) c1 d _ refl e.idle
       (λ n. (
-        ((omega arith, omega arith, ap (λ m. m (word_of (c.regs 20) (c.regs 21))) q.memory ∙ held), tt),
+        ((omega arith, omega arith, ap (λ m. m (block_word (c.regs 20) (c.regs 21))) q.memory ∙ held), tt),
         grants most (get_call c) _ d good (stayed (granted users (console_of d) (get_call c)) _ (record { memory = q.memory; regs = λ r le. put_other c1.regs 2 _ r (omega arith) ∙ q.regs r le; hi = q.hi; lo = q.lo; special = q.special })
-            (ap₂ (λ a b. cast_unsigned w32 (signed (register_of (user_of users a) b)) ∷ []) eu er ∙ ap (λ z. z ∷ []) (as_word (register_of (user_of users (c.regs 20)) (c.regs 21)) (subst (λ z. z < 2 ^ 32) held (e.words (word_of (c.regs 20) (c.regs 21)) top)))) refl refl),
+            (ap₂ (λ a b. cast_unsigned w32 (signed (register_of (user_of users a) b)) ∷ []) eu er ∙ ap (λ z. z ∷ []) (as_word (register_of (user_of users (c.regs 20)) (c.regs 21)) (subst (λ z. z < 2 ^ 32) held (e.words (block_word (c.regs 20) (c.regs 21)) top)))) refl refl),
       )))
       (λ nay c1 q r2. refuses most (get_call c) c1 nay q (ap (λ z. z ∷ []) (sym r2))))
 
@@ -235,7 +235,7 @@ module _ (w : World) (f : CodeLaws w) (users : List Flat) (c : Contents) (d : Be
       (λ good eu er one r1 r32 c1 q at. let inside = e.inside in let small = f.small in let top = block_in one r32 in
       let r22 = q.regs 22 (omega arith) in let o0 = one.0 in
       let x = as_word (c.regs 22) (e.regs 22) in
-      straightly w f (Sw 22 11 0 ∷ Addiu 2 0 1 ∷ []) (Writes (word_of (c.regs 20) (c.regs 21)) (c.regs 22) ∷ Gives 1 ∷ []) c1 d _ refl e.idle
+      straightly w f (Sw 22 11 0 ∷ Addiu 2 0 1 ∷ []) (Writes (block_word (c.regs 20) (c.regs 21)) (c.regs 22) ∷ Gives 1 ∷ []) c1 d _ refl e.idle
       (λ n. (
         ((omega arith, omega arith, e.free (c.regs 20) (c.regs 21 % 32) one (omega arith), r22), (refl, tt)),
         grants most (set_call c) _ d good (renamed (nat_abs (signed (c.regs 20))) (nat_abs (signed (c.regs 21))) (cast_unsigned w32 (signed (c.regs 22))) eu er x _
@@ -249,16 +249,16 @@ module _ (w : World) (f : CodeLaws w) (users : List Flat) (c : Contents) (d : Be
       renamed : (u r x : ℕ) → u ≡ c.regs 20 → r ≡ c.regs 21 → x ≡ c.regs 22 → (c2 : Contents) → LeftByCall users (given_set (c.regs 20) (c.regs 21) (c.regs 22)) c d c2 d → LeftByCall users (given_set u r x) c d c2 d
       renamed u r x eu er ex c2 l = subst (λ u. LeftByCall users (given_set u r x) c d c2 d) (sym eu) (subst (λ r. LeftByCall users (given_set (c.regs 20) r x) c d c2 d) (sym er) (subst (λ x. LeftByCall users (given_set (c.regs 20) (c.regs 21) x) c d c2 d) (sym ex) l))
 
-      set_left : (x : ℕ) → IsOneOf users (c.regs 20) → 1 ≤ c.regs 21 → c.regs 21 ≤ 32 → (c1 : Contents) → Quiet c c1 → LeftByCall users (given_set (c.regs 20) (c.regs 21) x) c d (with_reg (record c1 { memory = put c1.memory (word_of (c.regs 20) (c.regs 21)) x }) 2 1) d
+      set_left : (x : ℕ) → IsOneOf users (c.regs 20) → 1 ≤ c.regs 21 → c.regs 21 ≤ 32 → (c1 : Contents) → Quiet c c1 → LeftByCall users (given_set (c.regs 20) (c.regs 21) x) c d (with_reg (record c1 { memory = put c1.memory (block_word (c.regs 20) (c.regs 21)) x }) 2 1) d
       set_left x one r1 r32 c1 q =
           let o0 = one.0 in let o1 = one.1 in record {
             answer = refl;
-            blocks = subst (λ m. BlocksHold (with_user users (c.regs 20) (with_register (user_of users (c.regs 20)) (c.regs 21) x)) (put m (word_of (c.regs 20) (c.regs 21)) x)) (sym q.memory) (blocks_set users c.memory (c.regs 20) (c.regs 21) x e.blocks one r1 r32 (e.whole (c.regs 20) one));
+            blocks = subst (λ m. BlocksHold (with_user users (c.regs 20) (with_register (user_of users (c.regs 20)) (c.regs 21) x)) (put m (block_word (c.regs 20) (c.regs 21)) x)) (sym q.memory) (blocks_set users c.memory (c.regs 20) (c.regs 21) x e.blocks one r1 r32 (e.whole (c.regs 20) one));
             count = length-set users (c.regs 20 - 1) (with_register (user_of users (c.regs 20)) (c.regs 21) x);
             flats = set_words users (c.regs 20) (with_register (user_of users (c.regs 20)) (c.regs 21) x) one refl;
             log = refl;
             input = refl;
-            words = λ k out. put_other c1.memory (word_of (c.regs 20) (c.regs 21)) x k (⊎_elim (λ lt. omega arith) (λ ge. omega arith) out) ∙ ap (λ m. m k) q.memory;
+            words = λ k out. put_other c1.memory (block_word (c.regs 20) (c.regs 21)) x k (⊎_elim (λ lt. omega arith) (λ ge. omega arith) out) ∙ ap (λ m. m k) q.memory;
             regs = λ r le. put_other c1.regs 2 1 r (omega arith) ∙ q.regs r le;
             hi = q.hi;
             lo = q.lo;

@@ -10,20 +10,20 @@ use Rattle.cvm_primitives.specs.Routines.{RoutineLaws}
 use Rattle.masm.specs.Says.{Gives, Reads, Writes}
 use Rattle.masm.specs.Laws.{From}
 use Rattle.cvm_primitives.proofs.Forms.{from_straight, from_then, from_later, straight_then}
-use Rattle.cvm_primitives.specs.Copy.{page_word, with_page_word}
-use Rattle.page_model.specs.Places.{Places, count_at, slot_at, paged_view}
+use Rattle.cvm_primitives.specs.Copy.{word_of_pages, with_page_word}
+use Rattle.page_model.specs.TableLayout.{TableLayout, count_at, slot_at, paged_view}
 use Rattle.layer_map.specs.Map.{hand_at}
 use Rattle.frame_table.specs.View.{Sited}
 use Rattle.page_fault.specs.Asked.{PageBlock, fault_steps}
-use Rattle.cvm_primitives.specs.View.{page_steps, PagesHeld, UsersIn, WordGood, number, EntryState, entry_state, BehindStays}
+use Rattle.cvm_primitives.specs.View.{steps_of_page, PagesHeld, UsersIn, WordGood, number_of_word, EntryState, entry_state, BehindStays}
 use Rattle.cvm_primitives.proofs.PartStates.{Came, Located, Quiet}
-use Rattle.cvm_primitives.specs.Code.{locate_code, load_code, store_code, vm_word_code, vm_put_code}
-use Rattle.cvm_primitives.proofs.Basics.{put_same, put_other, held_to}
-use Rattle.cvm_primitives.proofs.Moves.{locate_from}
-use Rattle.cvm_primitives.proofs.Bring.{brings_one}
+use Rattle.cvm_primitives.specs.Code.{locate_code, read_word_code, write_word_code, vm_word_code, vm_put_code}
+use Rattle.cvm_primitives.proofs.SharedByRoutines.{put_same, put_other, held_to}
+use Rattle.cvm_primitives.proofs.WordsMoved.{locate_from}
+use Rattle.cvm_primitives.proofs.PagesBrought.{brings_one}
 use Rattle.cvm_primitives.proofs.ArgumentTests.{product_below, asked_from}
 
-module _ (w : World) (f : RoutineLaws w) (p : Places) (b : ℕ) (si : Sited p w) (page : PageBlock w p b) (v : Pages) (g : EntryState) where
+module _ (w : World) (f : RoutineLaws w) (p : TableLayout) (b : ℕ) (si : Sited p w) (page : PageBlock w p b) (v : Pages) (g : EntryState) where
   -- the frame of a page that passes
   resident : (m : ℕ → ℕ) (s : ℕ → ℕ → ℕ) (q : ℕ) (store : Bool) → PagingInvariant p.layout v (paged_view p m s) → q < p.layout.pages → v.live q ≡ true → IsAccessible (paged_view p m s) q store
       → IsFrame p.layout (m (p.tables + q) / 4096) × ((i : ℕ) → i < 1024 → m (1024 * (m (p.tables + q) / 4096) + i) ≡ v.word q i)
@@ -32,7 +32,7 @@ module _ (w : World) (f : RoutineLaws w) (p : Places) (b : ℕ) (si : Sited p w)
       (st.named q (m (p.tables + q) / 4096) lq n, λ i li. sym (f.shows.valid (paged_view p m s) q (m (p.tables + q) / 4096) i n) ∙ st.pages q lq al i li)
 
   -- READ
-  pub load_from : (z : ℕ) (c : Contents) (d : Behind) → PagesHeld p v g c d → c.regs 26 ≡ z → z < 1024 * p.layout.pages → v.live (z / 1024) ≡ true → From w (load_code p page.code) (2 + (fault_steps b + (1 + 11 + 1))) c d (λ c' d'. PagesHeld p v g c' d' × (c'.regs 2 ≡ page_word v z))
+  pub load_from : (z : ℕ) (c : Contents) (d : Behind) → PagesHeld p v g c d → c.regs 26 ≡ z → z < 1024 * p.layout.pages → v.live (z / 1024) ≡ true → From w (read_word_code p page.code) (2 + (fault_steps b + (1 + 11 + 1))) c d (λ c' d'. PagesHeld p v g c' d' × (c'.regs 2 ≡ word_of_pages v z))
   load_from z c d h at lz al =
       let low = si.low in let first = si.first in let second = si.second in let third = si.third in let small = f.small in let pages = si.pages in
       straight_then w f (Srl 16 26 10 ∷ Addiu 15 0 0 ∷ []) _ (Gives (z / 1024) ∷ Gives 0 ∷ []) (fault_steps b + (1 + 11 + 1)) c d _ refl h.idle (λ n. (ap (λ z. z / 2 ^ 10) at, (refl, tt)))
@@ -45,7 +45,7 @@ module _ (w : World) (f : RoutineLaws w) (p : Places) (b : ℕ) (si : Sited p w)
       (straight_then w f (Addu 8 26 0 ∷ []) (locate_code p) (Gives z ∷ []) 11 c1 d1 (Located p z (with_reg c1 8 z) d1) refl k1.held.idle (λ n. (omega arith, tt))
       (λ n. locate_from w f p b si z (with_reg c1 8 z) d1 refl lz (k1.held.small (z / 1024) (omega arith)) k1.held.idle))
       (λ c2 d2 k2. let address = k2.address in let idle2 = ap (λ d. d.pending) k2.disk ∙ k1.held.idle in
-      from_straight w f (Lw 2 8 0 ∷ []) (Reads (1024 * (c1.memory (p.tables + z / 1024) / 4096) + z % 1024) (page_word v z) ∷ []) c2 d2 _ refl idle2
+      from_straight w f (Lw 2 8 0 ∷ []) (Reads (1024 * (c1.memory (p.tables + z / 1024) / 4096) + z % 1024) (word_of_pages v z) ∷ []) c2 d2 _ refl idle2
       (λ n. (
         ((omega arith, omega arith, ap (λ m. m (1024 * (c1.memory (p.tables + z / 1024) / 4096) + z % 1024)) k2.memory ∙ res.1 (z % 1024) (omega arith)), tt),
         (held_to p v g c1 d1 _ d2 k1.held k2.memory k2.keeps.special k2.keeps.r28 k2.keeps.r29 k2.keeps.r30 k2.keeps.r31 k2.disk, refl),
@@ -75,7 +75,7 @@ module _ (w : World) (f : RoutineLaws w) (p : Places) (b : ℕ) (si : Sited p w)
         hand = ap (λ h. p.layout.zeros + 1 + h) (others hand_at (omega arith));
       })
 
-  pub store_from : (z x : ℕ) (c : Contents) (d : Behind) → PagesHeld p v g c d → c.regs 26 ≡ z → c.regs 22 ≡ x → x < 2 ^ 32 → z < 1024 * p.layout.pages → v.live (z / 1024) ≡ true → From w (store_code p page.code) (3 + (fault_steps b + (1 + 11 + 2))) c d (λ c' d'. PagesHeld p (with_page_word v z x) g c' d' × (c'.regs 2 ≡ 1))
+  pub store_from : (z x : ℕ) (c : Contents) (d : Behind) → PagesHeld p v g c d → c.regs 26 ≡ z → c.regs 22 ≡ x → x < 2 ^ 32 → z < 1024 * p.layout.pages → v.live (z / 1024) ≡ true → From w (write_word_code p page.code) (3 + (fault_steps b + (1 + 11 + 2))) c d (λ c' d'. PagesHeld p (with_page_word v z x) g c' d' × (c'.regs 2 ≡ 1))
   store_from z x c d h at ax sx lz al =
       let low = si.low in let first = si.first in let second = si.second in let third = si.third in let small = f.small in let pages = si.pages in
       straight_then w f (Addu 27 22 0 ∷ Srl 16 26 10 ∷ Addiu 15 0 1 ∷ []) _ (Gives x ∷ Gives (z / 1024) ∷ Gives 1 ∷ []) (fault_steps b + (1 + 11 + 2)) c d _ refl h.idle (λ n. (omega arith, (ap (λ z. z / 2 ^ 10) at, (refl, tt))))
@@ -117,50 +117,50 @@ module _ (w : World) (f : RoutineLaws w) (p : Places) (b : ℕ) (si : Sited p w)
           }
 
 -- a good word is below the pages, and its page is live
-pub number_good : (p : Places) (users per : ℕ) (size : ℕ → ℕ) (v : Pages) (c : Contents) (u a : ℕ) → UsersIn p users per size v c → WordGood users size u a → (number per u a < 1024 * p.layout.pages) × (v.live (number per u a / 1024) ≡ true)
+pub number_good : (p : TableLayout) (users per : ℕ) (size : ℕ → ℕ) (v : Pages) (c : Contents) (u a : ℕ) → UsersIn p users per size v c → WordGood users size u a → (number_of_word per u a < 1024 * p.layout.pages) × (v.live (number_of_word per u a / 1024) ≡ true)
 number_good p users per size v c u a us good =
     let g0 = good.0 in let g1 = good.1 in let g3 = good.3 in
     let fit = us.fit u g0 g1 in let shape = us.shape in
     let bound = product_below (u - 1) users per (omega arith) in
-    let e : number per u a / 1024 ≡ (u - 1) * per + a / 4096 = omega arith in
+    let e : number_of_word per u a / 1024 ≡ (u - 1) * per + a / 4096 = omega arith in
     (omega arith, ap v.live e ∙ us.live u (a / 4096) g0 g1 (omega arith) ∙ lt-ltb (a / 4096) (size u) (omega arith))
 
-module _ (w : World) (f : RoutineLaws w) (p : Places) (b : ℕ) (si : Sited p w) (page : PageBlock w p b) (users per : ℕ) (size : ℕ → ℕ) (v : Pages) (c : Contents) (d : Behind) (held : PagesHeld p v (entry_state c d) c d) (us : UsersIn p users per size v c) (u a : ℕ) (ru : c.regs 20 ≡ u) (ra : c.regs 21 ≡ a) (su : u < 2 ^ 32) (sa : a < 2 ^ 32) where
+module _ (w : World) (f : RoutineLaws w) (p : TableLayout) (b : ℕ) (si : Sited p w) (page : PageBlock w p b) (users per : ℕ) (size : ℕ → ℕ) (v : Pages) (c : Contents) (d : Behind) (held : PagesHeld p v (entry_state c d) c d) (us : UsersIn p users per size v c) (u a : ℕ) (ru : c.regs 20 ≡ u) (ra : c.regs 21 ≡ a) (su : u < 2 ^ 32) (sa : a < 2 ^ 32) where
   quiet_held : (c1 : Contents) (d1 : Behind) → Quiet c d c1 d1 → PagesHeld p v (entry_state c d) c1 d1
   quiet_held c1 d1 k = held_to p v (entry_state c d) c d c1 d1 held k.memory k.special k.r28 k.r29 k.r30 k.r31 k.disk
 
-  load_short : length (load_code p page.code) ≤ 30000
+  load_short : length (read_word_code p page.code) ≤ 30000
   load_short = let s = page.short in let l = length-append page.code ((Addu 8 26 0 ∷ locate_code p) ++ (Lw 2 8 0 ∷ [])) in omega arith
 
-  store_short : length (store_code p page.code) ≤ 30000
+  store_short : length (write_word_code p page.code) ≤ 30000
   store_short = let s = page.short in let l = length-append page.code ((Addu 8 26 0 ∷ locate_code p) ++ (Sw 27 8 0 ∷ Addiu 2 0 1 ∷ [])) in omega arith
 
   -- VM_WORD: the word, within two units and a page; or -1, within a unit
-  pub vm_word_good : WordGood users size u a → From w (vm_word_code p users per page.code) (1200 + page_steps p.layout.pages b) c d (λ c' d'. PagesHeld p v (entry_state c d) c' d' × (c'.regs 2 ≡ page_word v (number per u a)))
+  pub vm_word_good : WordGood users size u a → From w (vm_word_code p users per page.code) (1200 + steps_of_page p.layout.pages b) c d (λ c' d'. PagesHeld p v (entry_state c d) c' d' × (c'.regs 2 ≡ word_of_pages v (number_of_word per u a)))
   vm_word_good good =
       from_later w f _ (3 + (8 + (3 + (3 + (2 + (fault_steps b + (1 + 11 + 1)))) + 1 + 1) + 1)) _ c d _ _ (omega arith) (λ c' d' k. k)
-      (asked_from w f p b si users per size v 65535 (2 + (fault_steps b + (1 + 11 + 1))) (load_code p page.code) (λ c' d'. PagesHeld p v (entry_state c d) c' d' × (c'.regs 2 ≡ page_word v (number per u a))) c d u a held.idle us ru ra su sa load_short
-      (λ good c1 d1 k at. let z = number_good p users per size v c u a us good in load_from w f p b si page v (entry_state c d) (number per u a) c1 d1 (quiet_held c1 d1 k) at z.0 z.1)
+      (asked_from w f p b si users per size v 65535 (2 + (fault_steps b + (1 + 11 + 1))) (read_word_code p page.code) (λ c' d'. PagesHeld p v (entry_state c d) c' d' × (c'.regs 2 ≡ word_of_pages v (number_of_word per u a))) c d u a held.idle us ru ra su sa load_short
+      (λ good c1 d1 k at. let z = number_good p users per size v c u a us good in load_from w f p b si page v (entry_state c d) (number_of_word per u a) c1 d1 (quiet_held c1 d1 k) at z.0 z.1)
       (λ bad c1 d1 k at. absurd (bad good)))
 
   pub vm_word_bad : (WordGood users size u a → ⊥) → From w (vm_word_code p users per page.code) 598 c d (λ c' d'. PagesHeld p v (entry_state c d) c' d' × (c'.regs 2 ≡ 2 ^ 32 - 1))
   vm_word_bad bad =
       from_later w f _ (3 + (8 + (3 + (3 + 0) + 1 + 1) + 1)) _ c d _ _ (omega arith) (λ c' d' k. k)
-      (asked_from w f p b si users per size v 65535 0 (load_code p page.code) (λ c' d'. PagesHeld p v (entry_state c d) c' d' × (c'.regs 2 ≡ 2 ^ 32 - 1)) c d u a held.idle us ru ra su sa load_short
+      (asked_from w f p b si users per size v 65535 0 (read_word_code p page.code) (λ c' d'. PagesHeld p v (entry_state c d) c' d' × (c'.regs 2 ≡ 2 ^ 32 - 1)) c d u a held.idle us ru ra su sa load_short
       (λ good. absurd (bad good))
       (λ bad c1 d1 k at. (quiet_held c1 d1 k, at)))
 
   -- VM_PUT: true (1) with the word f.stores, or false (0)
-  pub vm_put_good : (x : ℕ) → c.regs 22 ≡ x → x < 2 ^ 32 → WordGood users size u a → From w (vm_put_code p users per page.code) (1200 + page_steps p.layout.pages b) c d (λ c' d'. PagesHeld p (with_page_word v (number per u a) x) (entry_state c d) c' d' × (c'.regs 2 ≡ 1))
+  pub vm_put_good : (x : ℕ) → c.regs 22 ≡ x → x < 2 ^ 32 → WordGood users size u a → From w (vm_put_code p users per page.code) (1200 + steps_of_page p.layout.pages b) c d (λ c' d'. PagesHeld p (with_page_word v (number_of_word per u a) x) (entry_state c d) c' d' × (c'.regs 2 ≡ 1))
   vm_put_good x rx sx good =
       from_later w f _ (3 + (8 + (3 + (3 + (3 + (fault_steps b + (1 + 11 + 2)))) + 1 + 1) + 1)) _ c d _ _ (omega arith) (λ c' d' k. k)
-      (asked_from w f p b si users per size v 0 (3 + (fault_steps b + (1 + 11 + 2))) (store_code p page.code) (λ c' d'. PagesHeld p (with_page_word v (number per u a) x) (entry_state c d) c' d' × (c'.regs 2 ≡ 1)) c d u a held.idle us ru ra su sa store_short
-      (λ good c1 d1 k at. let z = number_good p users per size v c u a us good in store_from w f p b si page v (entry_state c d) (number per u a) x c1 d1 (quiet_held c1 d1 k) at (k.r22 ∙ rx) sx z.0 z.1)
+      (asked_from w f p b si users per size v 0 (3 + (fault_steps b + (1 + 11 + 2))) (write_word_code p page.code) (λ c' d'. PagesHeld p (with_page_word v (number_of_word per u a) x) (entry_state c d) c' d' × (c'.regs 2 ≡ 1)) c d u a held.idle us ru ra su sa store_short
+      (λ good c1 d1 k at. let z = number_good p users per size v c u a us good in store_from w f p b si page v (entry_state c d) (number_of_word per u a) x c1 d1 (quiet_held c1 d1 k) at (k.r22 ∙ rx) sx z.0 z.1)
       (λ bad c1 d1 k at. absurd (bad good)))
 
   pub vm_put_bad : (WordGood users size u a → ⊥) → From w (vm_put_code p users per page.code) 598 c d (λ c' d'. PagesHeld p v (entry_state c d) c' d' × (c'.regs 2 ≡ 0))
   vm_put_bad bad =
       from_later w f _ (3 + (8 + (3 + (3 + 0) + 1 + 1) + 1)) _ c d _ _ (omega arith) (λ c' d' k. k)
-      (asked_from w f p b si users per size v 0 0 (store_code p page.code) (λ c' d'. PagesHeld p v (entry_state c d) c' d' × (c'.regs 2 ≡ 0)) c d u a held.idle us ru ra su sa store_short
+      (asked_from w f p b si users per size v 0 0 (write_word_code p page.code) (λ c' d'. PagesHeld p v (entry_state c d) c' d' × (c'.regs 2 ≡ 0)) c d u a held.idle us ru ra su sa store_short
       (λ good. absurd (bad good))
       (λ bad c1 d1 k at. (quiet_held c1 d1 k, at)))

@@ -12,8 +12,8 @@ use Rattle.cvm_model.specs.Kernel.{flat}
 use Rattle.cvm_model.specs.Primitives.{Given, user_of, pages_of, register_of}
 
 -- the word of user u's control block that holds register r, or the pc for 32
-abbrev pub word_of : ℕ → ℕ → ℕ
-word_of u r = block_at u + r % 32
+abbrev pub block_word : ℕ → ℕ → ℕ
+block_word u r = block_at u + r % 32
 
 -- user u is one of them
 abbrev pub IsOneOf : List Flat → ℕ → Type 0
@@ -21,7 +21,7 @@ IsOneOf users u = (1 ≤ u) × (u ≤ length users)
 
 -- the control blocks hold the pc, registers, hi, lo and size of each user
 pub record BlocksHold (users : List Flat) (memory : ℕ → ℕ) : Type 0 where
-  pub registers : (u r : ℕ) → IsOneOf users u → 1 ≤ r → r ≤ 32 → memory (word_of u r) ≡ register_of (user_of users u) r
+  pub registers : (u r : ℕ) → IsOneOf users u → 1 ≤ r → r ≤ 32 → memory (block_word u r) ≡ register_of (user_of users u) r
   pub sizes : (u : ℕ) → IsOneOf users u → memory (block_at u + BLOCK_SIZE) ≡ pages_of (user_of users u)
   pub hi : (u : ℕ) → IsOneOf users u → memory (block_at u + BLOCK_HI) ≡ (user_of users u).cpu.hi
   pub lo : (u : ℕ) → IsOneOf users u → memory (block_at u + BLOCK_LO) ≡ (user_of users u).cpu.lo

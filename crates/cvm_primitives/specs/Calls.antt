@@ -11,7 +11,7 @@ use Rattle.layer_map.specs.declared.places.TheConstants.{BLOCK_SIZE}
 use Rattle.masm.specs.declared.registers.TheConstants.{GLOBALS, RETURN}
 use Rattle.masm.specs.Laws.{From}
 use Rattle.page_model.specs.Paging.{PagingInvariant}
-use Rattle.page_model.specs.Places.{Places, frames_end, paged_view}
+use Rattle.page_model.specs.TableLayout.{TableLayout, frames_end, paged_view}
 use Rattle.frame_table.specs.View.{Sited, Ported}
 use Rattle.page_fault.specs.Code.{handle_page_code}
 use Rattle.cvm_model.specs.Kernel.{flat}
@@ -20,12 +20,12 @@ use Rattle.cvm_model.specs.Paged.{pages_by}
 use Rattle.cvm_model.specs.Stands.{UserFits}
 use Rattle.cvm_primitives.specs.Blocks.{IsOneOf, BlocksHold, console_of}
 use Rattle.cvm_primitives.specs.declared.roles.TheConstants.{USER, ADDRESS, ASKED_SIZE, VALUE, TARGET_USER, TARGET_ADDRESS, LENGTH}
-use Rattle.cvm_primitives.specs.View.{page_steps, entry_state, PagesHeld, Fresh}
+use Rattle.cvm_primitives.specs.View.{steps_of_page, entry_state, PagesHeld, Fresh}
 use Rattle.cvm_primitives.specs.Code.{vm_word_code, vm_put_code, vm_copy_code, vm_resize_code}
 
 -- What a call is entered with: at most 64 users of at most so many pages each, whose pages the machine shows and whose control blocks hold
 -- them; the disk and all that paging needs; the words of sizes may be written.
-pub record CallEntered (w : World) (p : Places) (b most : ℕ) (users : List Flat) (c : Contents) (d : Behind) : Type 0 where
+pub record CallEntered (w : World) (p : TableLayout) (b most : ℕ) (users : List Flat) (c : Contents) (d : Behind) : Type 0 where
   pub sited : Sited p w
   pub ported : Ported p w b
   pub held : PagesHeld p (pages_by most users) (entry_state c d) c d
@@ -40,7 +40,7 @@ pub record CallEntered (w : World) (p : Places) (b most : ℕ) (users : List Fla
 
 -- What it leaves: its answer, and the users and the console after it. All words below the page tables but the hand and the users' sizes, those behind
 -- the last frame, the special registers, registers 28 to 31 and the sectors past the pages stay; entries are words; and no command is under way.
-pub record CallLeft (p : Places) (per : ℕ) (users : List Flat) (g : Given) (c0 : Contents) (d0 : Behind) (c : Contents) (d : Behind) : Type 0 where
+pub record CallLeft (p : TableLayout) (per : ℕ) (users : List Flat) (g : Given) (c0 : Contents) (d0 : Behind) (c : Contents) (d : Behind) : Type 0 where
   pub answer : flat (λ _. 0) g.answer ≡ c.regs ANSWER ∷ []
   pub stands : PagingInvariant p.layout (pages_by per g.users) (paged_view p c.memory d.sectors)
   pub blocks : BlocksHold g.users c.memory
@@ -55,8 +55,8 @@ pub record CallLeft (p : Places) (per : ℕ) (users : List Flat) (g : Given) (c0
   pub idle : d.pending ≡ Idle
 
 -- what a call is worth: 600 steps for each word and page, those of its pages, and 600 for the call itself, less the jump of its entry and its return
-abbrev pub call_steps : Places → ℕ → Given → ℕ
-call_steps p b g = 598 + 600 * (g.words + g.pages) + page_steps p.layout.pages b * g.pages
+abbrev pub call_steps : TableLayout → ℕ → Given → ℕ
+call_steps p b g = 598 + 600 * (g.words + g.pages) + steps_of_page p.layout.pages b * g.pages
 
 -- the calls, with their arguments as registers hold them
 abbrev pub word_call : Contents → KernelCall
@@ -72,28 +72,28 @@ abbrev pub resize_call : Contents → KernelCall
 resize_call c = VmResize (signed (c.regs USER)) (signed (c.regs ASKED_SIZE))
 
 -- what a call comes to
-abbrev pub given : ℕ → List Flat → Behind → KernelCall → Given
-given most users d call = prim most call users (console_of d)
+abbrev pub call_given : ℕ → List Flat → Behind → KernelCall → Given
+call_given most users d call = prim most call users (console_of d)
 
 -- by this code the call takes at most what it is worth, and comes to what is said of it, whatever its arguments are
-abbrev pub AnswersOnPages : World → List Inst → KernelCall → Places → (b most : ℕ) → List Flat → Contents → Behind → Type 0
+abbrev pub AnswersOnPages : World → List Inst → KernelCall → TableLayout → (b most : ℕ) → List Flat → Contents → Behind → Type 0
 AnswersOnPages w code call p b most users c d =
-    From w code (call_steps p b (given most users d call)) c d (CallLeft p most users (given most users d call) c d)
+    From w code (call_steps p b (call_given most users d call)) c d (CallLeft p most users (call_given most users d call) c d)
 
 -- the pages by which a good vm_resize makes a memory grow name the zero frame
-abbrev pub Grown : Places → ℕ → List Flat → Contents → Contents → Type 0
+abbrev pub Grown : TableLayout → ℕ → List Flat → Contents → Contents → Type 0
 Grown p most users c c' = is_good most users (resize_call c) ≡ true →
     Fresh p ((c.regs USER - 1) * most + pages_of (user_of users (c.regs USER))) (c.regs ASKED_SIZE - pages_of (user_of users (c.regs USER))) c'
 
 -- vm_word, vm_put, vm_copy and vm_resize, the last with what its new pages name
-pub record PageCallsAnswer (w : World) (p : Places) (b most : ℕ) (users : List Flat) (c : Contents) (d : Behind) : Type 0 where
+pub record PageCallsAnswer (w : World) (p : TableLayout) (b most : ℕ) (users : List Flat) (c : Contents) (d : Behind) : Type 0 where
   pub word : AnswersOnPages w (vm_word_code p (length users) most (handle_page_code p)) (word_call c) p b most users c d
   pub put : AnswersOnPages w (vm_put_code p (length users) most (handle_page_code p)) (put_call c) p b most users c d
   pub copy : AnswersOnPages w (vm_copy_code p (length users) most (handle_page_code p)) (copy_call c) p b most users c d
-  pub resize : From w (vm_resize_code p (length users) most) (call_steps p b (given most users d (resize_call c))) c d
-      (λ c' d'. CallLeft p most users (given most users d (resize_call c)) c d c' d' × Grown p most users c c')
+  pub resize : From w (vm_resize_code p (length users) most) (call_steps p b (call_given most users d (resize_call c))) c d
+      (λ c' d'. CallLeft p most users (call_given most users d (resize_call c)) c d c' d' × Grown p most users c c')
 
 -- they do from wherever they are entered
 abbrev pub MemoryAnswers : World → Type 0
-MemoryAnswers w = (p : Places) (b most : ℕ) (users : List Flat) (c : Contents) (d : Behind) →
+MemoryAnswers w = (p : TableLayout) (b most : ℕ) (users : List Flat) (c : Contents) (d : Behind) →
     CallEntered w p b most users c d → PageCallsAnswer w p b most users c d

@@ -19,13 +19,13 @@ use Rattle.kernel_linker.specs.Fault.{link_source_fault}
 use Rattle.kernel_linker.specs.Open.{open_answer, OpensTo}
 use Rattle.kernel_linker.specs.declared.fault.LinkFault.{LinkFault}
 use Rattle.kernel_linker.specs.declared.fault.LinkFault.TheVariants as linking
-use Rattle.run_scripts.specs.Check.{Told, TellsUnit, has_longest, has_loop, TellsOpened, TellsObject, no_object, has_object}
+use Rattle.run_scripts.specs.Check.{CheckTold, TellsUnit, has_longest, has_loop, TellsOpened, TellsObject, no_object, has_object}
 use Rattle.run_scripts.specs.Refusal.{bad_object, unlinked}
 use Rattle.run_scripts.specs.Plan.{refuses, prints, told_plan, AfterChecked, IsPlan}
 use Rattle.cvm_shell.specs.Stages.{object_stop, link_stop}
 use Rattle.cvm_shell.specs.Views.{IfRefused}
 use Rattle.cvm_shell.proofs.LinkPlans.{OneObject, no_fault, one_object, object_stops, link_stops, memory_of}
-use Rattle.cvm_shell.proofs.Fronts.{OneAnswer, answer_or_memory, one_fault, not_both}
+use Rattle.cvm_shell.proofs.SourceFronts.{OneAnswer, answer_or_memory, one_fault, not_both}
 
 -- a source that has no unit isn't opened
 pub unopened : (o : Object) (f : SourceFault) → open_answer o (Err f) ≡ Err (link_source_fault f)
@@ -42,7 +42,7 @@ one_unit ones stack u a b (has_longest m xs l) (has_loop ys k) = absurd (ones.no
 one_unit ones stack u a b (has_loop xs l) (has_longest n ys k) = absurd (ones.not_both u n ys xs k l)
 one_unit ones stack u a b (has_loop xs l) (has_loop ys k) = ap (loop_text u) (ones.loops u xs ys l k)
 
-one_opened : AnswersAreOne → (stack : ℕ) (opened : Result CUnit LinkFault) (a b : Told) → TellsOpened stack opened a → TellsOpened stack opened b → a ≡ b
+one_opened : AnswersAreOne → (stack : ℕ) (opened : Result CUnit LinkFault) (a b : CheckTold) → TellsOpened stack opened a → TellsOpened stack opened b → a ≡ b
 one_opened ones stack (Ok u) (Ok a) (Ok b) h k = ap (λ (text : List ℕ). Ok text) (one_unit ones stack u a b h k)
 one_opened ones stack (Ok u) (Ok a) (Err s) h k = absurd k
 one_opened ones stack (Ok u) (Err r) b h k = absurd h
@@ -52,14 +52,14 @@ one_opened ones stack (Err f) (Err r) (Err s) h k = let same : r ≡ s = h ∙ s
 
 module _ (ones : AnswersAreOne) (one : OneAnswer) (read : OneObject) (stack : ℕ) (bytes : List ℕ) where
   -- of one object
-  same_opened : (o p : Object) (front other : Result CUnit SourceFault) (a b : Told) → o ≡ p → IsFrontAnswer o.source front → IsFrontAnswer p.source other → TellsOpened stack (open_answer o front) a
+  same_opened : (o p : Object) (front other : Result CUnit SourceFault) (a b : CheckTold) → o ≡ p → IsFrontAnswer o.source front → IsFrontAnswer p.source other → TellsOpened stack (open_answer o front) a
       → TellsOpened stack (open_answer p other) b → a ≡ b
   same_opened o p front other a b e is also h k =
       let here : IsFrontAnswer o.source other = subst (λ (x : Object). IsFrontAnswer x.source other) (sym e) also in
       let same : open_answer p other ≡ open_answer o front = ap (λ (x : Object). open_answer x other) (sym e) ∙ ap (open_answer o) (one o.source other front here is) in
       one_opened ones stack (open_answer o front) a b h (subst (λ (x : Result CUnit LinkFault). TellsOpened stack x b) same k)
 
-  one_told : (a b : Told) → TellsObject stack bytes a → TellsObject stack bytes b → a ≡ b
+  one_told : (a b : CheckTold) → TellsObject stack bytes a → TellsObject stack bytes b → a ≡ b
   one_told a b (no_object f is) (no_object g other) = let e = read bytes (Err f) (Err g) is other in let same : f ≡ g = cc in ap (λ (x : ObjectFault). Err (bad_object x)) same
   one_told a b (no_object f is) (has_object o front told other also h) = absurd (no_fault bytes o f read other is)
   one_told a b (has_object o front told is of h) (no_object g other) = absurd (no_fault bytes o g read is other)
@@ -67,7 +67,7 @@ module _ (ones : AnswersAreOne) (one : OneAnswer) (read : OneObject) (stack : �
       same_opened o p front back a b (one_object o p (Ok o) refl (read bytes (Ok o) (Ok p) is other)) of also h k
 
   -- the bytes come to one plan
-  plan_told : (told : Told) → TellsObject stack bytes told → IsPlan ⊤ (AfterChecked stack bytes) (told_plan told)
+  plan_told : (told : CheckTold) → TellsObject stack bytes told → IsPlan ⊤ (AfterChecked stack bytes) (told_plan told)
   plan_told told is = record { comes = (told, is, refl); only = λ t q other. other.2 ∙ ap told_plan (one_told other.0 told other.1 is) }
 
   -- THE FAULT of the bytes

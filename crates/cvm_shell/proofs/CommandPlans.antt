@@ -7,7 +7,7 @@ use Rattle.cvm_shell.specs.declared.refusal.Refusal.TheVariants as by
 use Rattle.run_scripts.specs.declared.session.Session.{Session}
 use Rattle.boot_turns.specs.declared.answers.View.{View}
 use Rattle.boot_turns.specs.declared.answers.View.TheVariants as view
-use Rattle.run_scripts.specs.Command.{Boot, Command, IsCommand, IsNoCommand, command_of}
+use Rattle.run_scripts.specs.Command.{BootCommand, Command, IsCommand, IsNoCommand, command_of}
 use Rattle.run_scripts.specs.Refusal.{Refusal, too_long}
 use Rattle.run_scripts.specs.Plan.{Plan, bad_words, refuses, PlanComesTo, no_command, by_command, AllTold, IsPlan}
 use Rattle.cvm_shell.specs.Stages.{FilesPlan, IsBootPlan}
@@ -41,9 +41,9 @@ pub one_refusal : (r s : Refusal) → refuses r ≡ refuses s → r ≡ s
 one_refusal r s h = cc
 
 -- the plan of a boot's files is that of the command with its view
-abbrev pub session_of : Boot → View → Session
+abbrev pub session_of : BootCommand → View → Session
 session_of b v = record { start = b.start; view = v; turns = b.turns; steps = b.steps }
 
-pub viewed_plan : (file : List ℕ → Option (List ℕ)) (b : Boot) (v : View) (p : Plan) → IsBootPlan layer_image file b (session_of b v) p → FilesPlan layer_image file (command_of b v) p
+pub viewed_plan : (file : List ℕ → Option (List ℕ)) (b : BootCommand) (v : View) (p : Plan) → IsBootPlan layer_image file b (session_of b v) p → FilesPlan layer_image file (command_of b v) p
 viewed_plan file b view.Boot p h = h
 viewed_plan file b (view.Trace u) p h = h

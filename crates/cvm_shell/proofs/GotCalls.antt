@@ -8,15 +8,15 @@ use Rattle.cvm_outside.specs.Outside.{Outside, Files, Output, Drive}
 use Rattle.cvm_outside.specs.Script.{Call, Got, Who, TheShelf, Performs, done, breaks, goes_on, ShelfCalled}
 use Rattle.cvm_outside.specs.declared.shelf.ShelfFault.{ShelfFault}
 use Rattle.cvm_outside.specs.declared.shelf.ShelfFault.TheVariants.{Failed, TooLong as Long, Memory as NoMemory}
-use Rattle.cvm_outside.proofs.Follow.{both}
+use Rattle.cvm_outside.proofs.ScriptsFollow.{both}
 use Rattle.cvm_shell.specs.declared.boot.Stop.{Stop}
 use Rattle.cvm_shell.specs.declared.boot.Stop.TheVariants as Stops
 use Rattle.cvm_shell.specs.declared.refusal.Refusal.TheVariants as by
-use Rattle.run_scripts.specs.Command.{texts}
+use Rattle.run_scripts.specs.Command.{word_texts}
 use Rattle.run_scripts.specs.Ends.{IsByte, AreShort, MayBeShort, MayBeLong, IsNotGot, Wants, behind, within, wants}
 use Rattle.run_scripts.specs.Served.{gets}
 use Rattle.cvm_shell.specs.Stages.{stop_of, IsFile}
-use Rattle.cvm_shell.specs.Does.{AreGot, IsLong, StopGets, AnswerGets}
+use Rattle.cvm_shell.specs.Does.{WereGot, IsLong, StopGets, AnswerGets}
 
 -- files beside a sink and a disk
 abbrev pub beside : Output → Drive → Files → Outside
@@ -46,7 +46,7 @@ is_long : (told : Option (List ℕ)) (taken : ℕ) → taken ≡ TOO_LONG → If
 is_long None taken e h = tt
 is_long (Some xs) taken e h = omega (arith, e, h)
 
-pub one_got : (name : List ℕ) (old new : Files) (v : Vec ℕ Global) (sink : Output) (disk : Drive) → OneGet name old new (Ok v) → AreGot (name ∷ []) (beside sink disk old) (beside sink disk new)
+pub one_got : (name : List ℕ) (old new : Files) (v : Vec ℕ Global) (sink : Output) (disk : Drive) → OneGet name old new (Ok v) → WereGot (name ∷ []) (beside sink disk old) (beside sink disk new)
 one_got name old new v sink disk g =
     let few : new.taken ≢ TOO_LONG = λ h. let e = g.long.1 h in cc in
     record {
@@ -97,7 +97,7 @@ short_both : (file : List ℕ → Option (List ℕ)) (a b : List (List ℕ)) →
 short_both file [] b h k = k
 short_both file (n ∷ a) b (s, h) k = (s, short_both file a b h k)
 
-module _ (a : List (List ℕ)) (old mid : Outside) (p : AreGot a old mid) where
+module _ (a : List (List ℕ)) (old mid : Outside) (p : WereGot a old mid) where
   kept : (n : List ℕ) → mid.shelf.file n ≡ old.shelf.file n
   kept = files_kept a old mid p.performs
 
@@ -107,7 +107,7 @@ module _ (a : List (List ℕ)) (old mid : Outside) (p : AreGot a old mid) where
   both_short : (b : List (List ℕ)) → AreShort mid.shelf.file b → AreShort old.shelf.file (a ++ b)
   both_short b s = short_both old.shelf.file a b p.short (short_moved old.shelf.file mid.shelf.file kept b s)
 
-  pub are_both : (b : List (List ℕ)) (new : Outside) → AreGot b mid new → AreGot (a ++ b) old new
+  pub are_both : (b : List (List ℕ)) (new : Outside) → WereGot b mid new → WereGot (a ++ b) old new
   are_both b new q = record {
     performs = joined b new None q.performs;
     short = both_short b q.short;
@@ -156,26 +156,26 @@ module _ (a : List (List ℕ)) (old mid : Outside) (p : AreGot a old mid) where
   stop_both b new Stops.Memory q = wants_both b new q
 
 -- where it stops
-pub stopped_then : (a b : List (List ℕ)) (old mid new : Outside) (s : Stop) → AreGot a old mid → StopGets b mid new s → StopGets (a ++ b) old new s
+pub stopped_then : (a b : List (List ℕ)) (old mid new : Outside) (s : Stop) → WereGot a old mid → StopGets b mid new s → StopGets (a ++ b) old new s
 stopped_then a b old mid new s p q = stop_both a old mid p b new s q
 
 -- A STAGE GOES ON with what was got, and calls the shelf no more
-pub stop_behind : (names : List (List ℕ)) (old new : Outside) (s : Stop) → AreGot names old new → s ≢ Stops.Shelf → s ≢ Stops.Refused by.TooLong → StopGets names old new s
+pub stop_behind : (names : List (List ℕ)) (old new : Outside) (s : Stop) → WereGot names old new → s ≢ Stops.Shelf → s ≢ Stops.Refused by.TooLong → StopGets names old new s
 stop_behind names old new (Stops.Refused by.TooLong) p inside short = absurd (short refl)
 stop_behind names old new (Stops.Refused other) p inside short = p
 stop_behind names old new Stops.Shelf p inside short = absurd (inside refl)
 stop_behind names old new Stops.Memory p inside short = behind names [] (append-nil names) p.short p.performs (λ some. p.few)
 
-pub gets_behind : {T : Type 0} (names : List (List ℕ)) (old new : Outside) (r : Result T Stop) → AreGot names old new → IfErr r (λ s. s ≢ Stops.Shelf) → (IsErrOf r (Stops.Refused by.TooLong) → ⊥) → AnswerGets names old new r
+pub gets_behind : {T : Type 0} (names : List (List ℕ)) (old new : Outside) (r : Result T Stop) → WereGot names old new → IfErr r (λ s. s ≢ Stops.Shelf) → (IsErrOf r (Stops.Refused by.TooLong) → ⊥) → AnswerGets names old new r
 gets_behind names old new (Ok v) p inside short = p
 gets_behind names old new (Err s) p inside short = stop_behind names old new s p inside (λ e. short (ap (λ (x : Stop). Err x) e))
 
 -- there was no memory for more, behind some of the files
-pub wants_more : (a b names : List (List ℕ)) (old new : Outside) → a ++ b ≡ names → AreGot a old new → Wants names old new
+pub wants_more : (a b names : List (List ℕ)) (old new : Outside) → a ++ b ≡ names → WereGot a old new → Wants names old new
 wants_more a b names old new e p = behind a b e p.short p.performs (λ some. p.few)
 
 -- none was got yet
-pub none_got : (names : List (String Global)) (at : Outside) → at.shelf.taken ≢ TOO_LONG → AreGot (texts (take 0 names)) at at
+pub none_got : (names : List (String Global)) (at : Outside) → at.shelf.taken ≢ TOO_LONG → WereGot (word_texts (take 0 names)) at at
 none_got [] at few = record { performs = done at; short = tt; few = few }
 none_got (n ∷ names) at few = record { performs = done at; short = tt; few = few }
 

@@ -10,9 +10,9 @@ use Rattle.cvm_outside.specs.declared.shelf.ShelfFault.TheVariants.{Failed, TooL
 use Rattle.cvm_shell.specs.declared.boot.Stop.{Stop}
 use Rattle.cvm_shell.specs.declared.boot.Stop.TheVariants.{Refused, Shelf, Memory}
 use Rattle.cvm_shell.specs.declared.refusal.Refusal.{Refusal as ByCode}
-use Rattle.run_scripts.specs.Command.{texts}
+use Rattle.run_scripts.specs.Command.{word_texts}
 use Rattle.run_scripts.specs.Refusal.{too_long}
-use Rattle.run_scripts.specs.Plan.{Plan, refuses, GotAll, AreTold, IsPlan}
+use Rattle.run_scripts.specs.Plan.{Plan, refuses, GotAll, FilesAreTold, IsPlan}
 use Rattle.run_scripts.specs.Ends.{AreShort, MayBeLong}
 use Rattle.cvm_shell.specs.Stages.{stop_of, IsFile, Fetched, OnlyLong}
 use Rattle.cvm_shell.specs.Does.{IsLong, StopGets}
@@ -25,14 +25,14 @@ Files = List ℕ → Option (List ℕ)
 
 -- the names before a place, the one there, and those behind it
 pub names_at : (names : List (String Global)) (i : ℕ) (name : String Global) → i < length names → name ≡ get_or names i name
-    → texts names ≡ texts (take i names) ++ string_bytes name ∷ texts (drop (suc i) names)
+    → word_texts names ≡ word_texts (take i names) ++ string_bytes name ∷ word_texts (drop (suc i) names)
 names_at [] i name below is = absurd (omega (arith, below))
-names_at (x ∷ xs) zero name below is = ap (λ (y : String Global). string_bytes y ∷ texts xs) (sym is)
+names_at (x ∷ xs) zero name below is = ap (λ (y : String Global). string_bytes y ∷ word_texts xs) (sym is)
 names_at (x ∷ xs) (suc i) name below is = ap (λ (ts : List (List ℕ)). string_bytes x ∷ ts) (names_at xs i name (omega (arith, below)) is)
 
 -- and those up to it
 pub names_up_to : (names : List (String Global)) (i : ℕ) (name : String Global) → i < length names → name ≡ get_or names i name
-    → texts (take (suc i) names) ≡ texts (take i names) ++ string_bytes name ∷ []
+    → word_texts (take (suc i) names) ≡ word_texts (take i names) ++ string_bytes name ∷ []
 names_up_to [] i name below is = absurd (omega (arith, below))
 names_up_to (x ∷ xs) zero name below is = ap (λ (y : String Global). string_bytes y ∷ []) (sym is)
 names_up_to (x ∷ xs) (suc i) name below is = ap (λ (ts : List (List ℕ)). string_bytes x ∷ ts) (names_up_to xs i name (omega (arith, below)) is)
@@ -50,14 +50,14 @@ fetched_more told (m ∷ names) [] n b f t s = absurd f
 fetched_more told (m ∷ names) (c ∷ got) n b (u, l, f) t s = (u, l, fetched_more told names got n b f t s)
 
 pub got_more : (told : Files) (names : List (String Global)) (i : ℕ) (name : String Global) (files more : List (Vec ℕ Global)) (file : Vec ℕ Global) → i < length names → name ≡ get_or names i name → more ≡ files ++ file ∷ []
-    → Fetched told (texts (take i names)) (map (λ (b : Vec ℕ Global). b.items) files) → Tells (told (string_bytes name)) file.items → length file.items < TOO_LONG
-    → Fetched told (texts (take (i + 1) names)) (map (λ (b : Vec ℕ Global). b.items) more)
+    → Fetched told (word_texts (take i names)) (map (λ (b : Vec ℕ Global). b.items) files) → Tells (told (string_bytes name)) file.items → length file.items < TOO_LONG
+    → Fetched told (word_texts (take (i + 1) names)) (map (λ (b : Vec ℕ Global). b.items) more)
 got_more told names i name files more file below is pushed f t s =
     let next : suc i ≡ i + 1 = omega arith in
     let P : List (List ℕ) → List (List ℕ) → Type 0 = λ ns bs. Fetched told ns bs in
-    subst (λ (ns : List (List ℕ)). P ns (map (λ (b : Vec ℕ Global). b.items) more)) (sym (names_up_to names i name below is) ∙ ap (λ (k : ℕ). texts (take k names)) next)
-    (subst (P (texts (take i names) ++ string_bytes name ∷ [])) (sym (bytes_more files file) ∙ ap (λ (fs : List (Vec ℕ Global)). map (λ (b : Vec ℕ Global). b.items) fs) (sym pushed))
-    (fetched_more told (texts (take i names)) (map (λ (b : Vec ℕ Global). b.items) files) (string_bytes name) file.items f t s))
+    subst (λ (ns : List (List ℕ)). P ns (map (λ (b : Vec ℕ Global). b.items) more)) (sym (names_up_to names i name below is) ∙ ap (λ (k : ℕ). word_texts (take k names)) next)
+    (subst (P (word_texts (take i names) ++ string_bytes name ∷ [])) (sym (bytes_more files file) ∙ ap (λ (fs : List (Vec ℕ Global)). map (λ (b : Vec ℕ Global). b.items) fs) (sym pushed))
+    (fetched_more told (word_texts (take i names)) (map (λ (b : Vec ℕ Global). b.items) files) (string_bytes name) file.items f t s))
 
 -- What holds of files that another shelf tells as well.
 
@@ -77,31 +77,31 @@ file_moved told other bytes e f = subst (λ (o : Option (List ℕ)). IsFile o by
 -- What comes of them.
 
 -- all were got: what comes of them is what comes of their bytes
-pub fetched_plan : (told : Files) (names got : List (List ℕ)) (next : List (List ℕ) → Plan → Type 0) (p : Plan) → Fetched told names got → IsPlan ⊤ (next got) p → IsPlan (AreTold told names) (GotAll told names next) p
+pub fetched_plan : (told : Files) (names got : List (List ℕ)) (next : List (List ℕ) → Plan → Type 0) (p : Plan) → Fetched told names got → IsPlan ⊤ (next got) p → IsPlan (FilesAreTold told names) (GotAll told names next) p
 fetched_plan told [] [] next p f is = record { comes = is.comes; only = λ t q h. is.only tt q h }
 fetched_plan told [] (b ∷ got) next p f is = absurd f
 fetched_plan told (n ∷ names) [] next p f is = absurd f
 fetched_plan told (n ∷ names) (b ∷ got) next p (t, s, f) is =
-    got_whole (told n) (λ bytes. GotAll told names (λ all. next (bytes ∷ all))) (AreTold told (n ∷ names)) (AreTold told names) b p (λ h. h.0) (λ h. h.1) t s (fetched_plan told names got (λ all. next (b ∷ all)) p f is)
+    got_whole (told n) (λ bytes. GotAll told names (λ all. next (bytes ∷ all))) (FilesAreTold told (n ∷ names)) (FilesAreTold told names) b p (λ h. h.0) (λ h. h.1) t s (fetched_plan told names got (λ all. next (b ∷ all)) p f is)
 
 pub all_come : {A : Type 0} (made : A → Plan) (told : Files) (names got : List (List ℕ)) (next : List (List ℕ) → Plan → Type 0) (r : Result A Stop) → Fetched told names got → IfPlan made (IsPlan ⊤ (next got)) r
-    → IfPlan made (IsPlan (AreTold told names) (GotAll told names next)) r
-all_come made told names got next r f h = if_plan made (IsPlan ⊤ (next got)) (IsPlan (AreTold told names) (GotAll told names next)) (λ p is. fetched_plan told names got next p f is) r h
+    → IfPlan made (IsPlan (FilesAreTold told names) (GotAll told names next)) r
+all_come made told names got next r f h = if_plan made (IsPlan ⊤ (next got)) (IsPlan (FilesAreTold told names) (GotAll told names next)) (λ p is. fetched_plan told names got next p f is) r h
 
 -- the first that is too long is refused
 long_plan : (told : Files) (before : List (List ℕ)) (name : List ℕ) (after : List (List ℕ)) (next : List (List ℕ) → Plan → Type 0) → AreShort told before → MayBeLong (told name)
-    → IsPlan (AreTold told (before ++ name ∷ after)) (GotAll told (before ++ name ∷ after) next) (refuses too_long)
+    → IsPlan (FilesAreTold told (before ++ name ∷ after)) (GotAll told (before ++ name ∷ after) next) (refuses too_long)
 long_plan told [] name after next s l =
-    let b = long_contents (told name) l in got_long (told name) (λ bytes. GotAll told after (λ all. next (bytes ∷ all))) (AreTold told (name ∷ after)) b.0 (λ h. h.0) b.1 b.2
+    let b = long_contents (told name) l in got_long (told name) (λ bytes. GotAll told after (λ all. next (bytes ∷ all))) (FilesAreTold told (name ∷ after)) b.0 (λ h. h.0) b.1 b.2
 long_plan told (n ∷ before) name after next (s, r) l =
     let b = short_contents (told n) s in
-    got_whole (told n) (λ bytes. GotAll told (before ++ name ∷ after) (λ all. next (bytes ∷ all))) (AreTold told (n ∷ before ++ name ∷ after)) (AreTold told (before ++ name ∷ after)) b.0 (refuses too_long) (λ h. h.0) (λ h. h.1) b.1 b.2
+    got_whole (told n) (λ bytes. GotAll told (before ++ name ∷ after) (λ all. next (bytes ∷ all))) (FilesAreTold told (n ∷ before ++ name ∷ after)) (FilesAreTold told (before ++ name ∷ after)) b.0 (refuses too_long) (λ h. h.0) (λ h. h.1) b.1 b.2
     (long_plan told before name after (λ all. next (b.0 ∷ all)) r l)
 
 -- WHAT STOPS THE GETS stops all that comes of the files
 module _ (old new : Seen) (names : List (List ℕ)) (next : List (List ℕ) → Plan → Type 0) where
   abbrev Of : List (List ℕ) → Plan → Type 0
-  Of ns = IsPlan (AreTold old.file ns) (GotAll old.file ns next)
+  Of ns = IsPlan (FilesAreTold old.file ns) (GotAll old.file ns next)
 
   is_long : (sink : Output) (disk : Drive) → IsLong names (beside sink disk old) (beside sink disk new) → Of names (refuses too_long)
   is_long sink disk l = subst (λ (ns : List (List ℕ)). Of ns (refuses too_long)) l.all (long_plan old.file l.before l.name l.after next l.short l.long)

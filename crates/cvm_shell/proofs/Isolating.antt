@@ -8,7 +8,7 @@ use Rattle.cvm_model.specs.Cvm.{Status as CvmStatus, UnitsDontMatter}
 use Rattle.cvm_model.specs.KernelMeaning.{UnitsAreKernels, UnitsReplay}
 use Rattle.cvm_model.specs.Journal.{replay, Isolated as AreIsolated}
 use Rattle.cvm_model.specs.Text.{trace_text}
-use Rattle.boot_turns.specs.TurnEnds.{first_of}
+use Rattle.boot_turns.specs.TurnEnds.{first_user_machine}
 use Rattle.run_scripts.specs.Boot.{booted}
 use Rattle.run_scripts.specs.Isolation.{replayed_text, TellTheSame, EqualJournalsTellTheSame}
 use Rattle.cvm_shell.specs.Stages.{JournalsReplay}
@@ -47,4 +47,4 @@ told_alike u first start j k status ended text other starts journals is so =
 
 pub equal_journals : EqualJournalsTellTheSame
 equal_journals session another u s r rows inputs before present old new past now status ended a b starts journals =
-    told_alike u (first_of (booted s rows) u) (first_of (booted r inputs) u) a.entries b.entries a.last.status b.last.status a.text b.text starts journals a.text_is b.text_is
+    told_alike u (first_user_machine (booted s rows) u) (first_user_machine (booted r inputs) u) a.entries b.entries a.last.status b.last.status a.text b.text starts journals a.text_is b.text_is

@@ -1,17 +1,17 @@
 mod AcceptedAs
-mod Answered
+mod ImageAnswers
 mod BootPlans
 mod CheckPlans
 mod CheckWords
-mod Doing
+mod StageEnds
 mod CommandPlans
 mod ListsOfTwo
 mod FirstBad
 mod ListsOfFive
-pub mod Follows
+pub mod AcceptedFollow
 mod ListsOfFour
 mod FourBytes
-mod Fronts
+mod SourceFronts
 mod GotCalls
 mod GotFiles
 mod Isolating

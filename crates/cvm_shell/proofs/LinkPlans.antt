@@ -30,11 +30,11 @@ use Rattle.cvm_shell.specs.declared.boot.Stop.TheVariants as Stops
 use Rattle.cvm_shell.specs.declared.refusal.Refusal.TheVariants as by
 use Rattle.run_scripts.specs.Refusal.{bad_object, bad_file, unlinked}
 use Rattle.cvm_shell.specs.Linked.{IsAcceptedAs}
-use Rattle.run_scripts.specs.Plan.{Plan, refuses, puts, words_from, linked_plan, AfterParts, unfit, answered, AfterUsers, AfterParams, AfterSystem, no_object, has_object, IsPlan}
+use Rattle.run_scripts.specs.Plan.{Plan, refuses, puts, user_words_from, linked_plan, AfterParts, unfit, answered, AfterUsers, AfterParams, AfterSystem, no_object, has_object, IsPlan}
 use Rattle.cvm_shell.specs.Stages.{object_stop, file_stop, link_stop}
 use Rattle.cvm_shell.specs.Views.{IfRefused}
 use Rattle.cvm_shell.proofs.AcceptedAs.{linked_system, accepted_as}
-use Rattle.cvm_shell.proofs.Fronts.{OneAnswer, IsWant, answer_or_memory, one_fault, not_both}
+use Rattle.cvm_shell.proofs.SourceFronts.{OneAnswer, IsWant, answer_or_memory, one_fault, not_both}
 
 -- LINKING
 
@@ -202,7 +202,7 @@ params_fault layer name o users r f e = elim (file_stops f) [
 ]
 
 pub plan_params : (layer : Layers) (name : List ℕ) (o : Object) (users : List (List ℕ)) (r : Result Params FileFault) (params : Params) (p : Plan) → r ≡ Ok params
-    → IsPlan ⊤ (AfterUsers layer name o params (words_from 1 users)) p → IsPlan ⊤ (AfterParams layer name o users r) p
+    → IsPlan ⊤ (AfterUsers layer name o params (user_words_from 1 users)) p → IsPlan ⊤ (AfterParams layer name o users r) p
 plan_params layer name o users r params p e plan =
     subst (λ (x : Result Params FileFault). IsPlan ⊤ (AfterParams layer name o users x) p) (sym e) (record { comes = plan.comes; only = λ t q k. plan.only tt q k })
 

@@ -17,8 +17,8 @@ use Rattle.run_scripts.specs.Plan.{puts, Renews, renewed_plan, AfterOld, IsPlan}
 use Rattle.cvm_shell.specs.Stages.{accept_stop}
 use Rattle.cvm_shell.specs.Views.{IfRefused}
 use Rattle.cvm_shell.proofs.AcceptedAs.{linked_system, accepted_as}
-use Rattle.cvm_shell.proofs.Fronts.{OneAnswer}
-use Rattle.cvm_shell.proofs.Answered.{Faulty, only_answered, image_answered, image_refused, accept_stops}
+use Rattle.cvm_shell.proofs.SourceFronts.{OneAnswer}
+use Rattle.cvm_shell.proofs.ImageAnswers.{Faulty, only_answered, image_answered, image_refused, accept_stops}
 
 abbrev Layers : Type 0
 Layers = Map → List ℕ → List ℕ

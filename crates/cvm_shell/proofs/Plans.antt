@@ -10,7 +10,7 @@ use Rattle.mips_asm.specs.declared.fault.AsmFault.TheVariants.{BadByte, UnknownM
 use Rattle.cvm_shell.specs.declared.boot.Stop.{Stop}
 use Rattle.cvm_shell.specs.declared.boot.Stop.TheVariants.{Refused, Shelf, Memory as OutOfMemory}
 use Rattle.run_scripts.specs.Refusal.{too_long, bad_text}
-use Rattle.run_scripts.specs.Plan.{Plan, refuses, puts, Got, long, whole, AfterText, no_words, assembles, bytes_of, IsPlan}
+use Rattle.run_scripts.specs.Plan.{Plan, refuses, puts, Got, long, whole, AfterText, no_words, assembles, user_bytes, IsPlan}
 use Rattle.run_scripts.specs.Ends.{MayBeShort, MayBeLong}
 use Rattle.cvm_shell.specs.Stages.{text_stop}
 use Rattle.cvm_shell.specs.Views.{refusal_view, IfRefused, IfPlan}
@@ -93,10 +93,10 @@ text_fault name text (LabelTwice line) h = text_refused name text (LabelTwice li
 text_fault name text TooLong h = text_refused name text TooLong (h (λ e. cc))
 text_fault name text Memory h = tt
 
-text_is_assembled : (name text words : List ℕ) → assembled text ≡ Ok words → (q : Plan) → AfterText name text q → q ≡ puts name (bytes_of words)
+text_is_assembled : (name text words : List ℕ) → assembled text ≡ Ok words → (q : Plan) → AfterText name text q → q ≡ puts name (user_bytes words)
 text_is_assembled name text words e q (no_words f d) = absurd cc
-text_is_assembled name text words e q (assembles other d) = let same : other ≡ words = cc in ap (λ (ws : List ℕ). puts name (bytes_of ws)) same
+text_is_assembled name text words e q (assembles other d) = let same : other ≡ words = cc in ap (λ (ws : List ℕ). puts name (user_bytes ws)) same
 
 -- a text is assembled
-pub text_assembled : (name text words : List ℕ) → assembled text ≡ Ok words → IsPlan ⊤ (AfterText name text) (puts name (bytes_of words))
+pub text_assembled : (name text words : List ℕ) → assembled text ≡ Ok words → IsPlan ⊤ (AfterText name text) (puts name (user_bytes words))
 text_assembled name text words e = record { comes = assembles words e; only = λ t q h. text_is_assembled name text words e q h }

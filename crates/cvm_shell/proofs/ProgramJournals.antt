@@ -15,9 +15,11 @@ use Rattle.cvm_model.specs.Cvm.{System, first_flat}
 use Rattle.cvm_model.specs.Journal.{journal, replay}
 use Rattle.cvm_model.specs.Text.{start_row, open_journal_rows}
 use Rattle.boot_turns.specs.Trace.{entries_so_far}
-use Rattle.boot_turns.specs.TurnEnds.{first_of, Printed}
-use Rattle.boot_turns.specs.Headline as headline
-use Rattle.boot_turns.specs.Headline.{Ending, TextAt}
+use Rattle.boot_turns.specs.TurnEnds.{first_user_machine, Printed}
+use Rattle.boot_run.specs.declared.whole.RunEnd.{RunEnd}
+use Rattle.boot_run.specs.declared.whole.RunEnd.TheVariants.{OutOfSteps}
+use Rattle.run_scripts.specs.RunStatus.{status_of_end}
+use Rattle.run_scripts.specs.RanFrom.{TextAt}
 use Rattle.boot_turns.specs.declared.answers.View.{View}
 use Rattle.boot_run.specs.RunEnds.{SeesUser}
 use Rattle.kernel_linker.specs.Accept.{ImageSystem}
@@ -25,7 +27,7 @@ use Rattle.user_c0.specs.Image.{image_words}
 use Rattle.user_c0.specs.Events.{IsAnsweredJournal}
 use Rattle.user_c0.specs.Program.{ImagesRun, FollowsMain}
 use Rattle.run_scripts.specs.declared.exit_status.Status.TheVariants.{StepLimit}
-use Rattle.run_scripts.specs.Boot.{booted, around, first_state, ended_as}
+use Rattle.run_scripts.specs.Boot.{booted, environment_of, start_state}
 use Rattle.cvm_shell.specs.Stages.{JournalsReplay}
 use Rattle.cvm_shell.specs.Programs.{HasProgram, BootedProgramsRun, SpentTracesTell, SpentProgramsRun}
 
@@ -35,7 +37,7 @@ started f [] i d words e = absurd (cc)
 started f (w ∷ users) zero d words e = let same : w ≡ words = cc in ap f same
 started f (w ∷ users) (suc i) d words e = started f users i d words e
 
-starts : (program : CUnit) (s : ImageSystem) (rows : Rows) (u : ℕ) → HasProgram program s u → first_of (booted s rows) u ≡ first_flat (image_words program)
+starts : (program : CUnit) (s : ImageSystem) (rows : Rows) (u : ℕ) → HasProgram program s u → first_user_machine (booted s rows) u ≡ first_flat (image_words program)
 starts program s rows u has = started first_flat s.users (u - 1) no_flat (image_words program) has.words
 
 -- what is mapped was there
@@ -44,29 +46,28 @@ there f None text e = absurd (cc)
 there f (Some last) text e = (last, refl)
 
 -- each journal of such a user that can be replayed is that of the program
-runs : ImagesRun → (program : CUnit) (s : ImageSystem) (rows : Rows) (u : ℕ) (j : List JournalEntry) (last : Flat) → HasProgram program s u → replay (first_of (booted s rows) u) j ≡ Some last
+runs : ImagesRun → (program : CUnit) (s : ImageSystem) (rows : Rows) (u : ℕ) (j : List JournalEntry) (last : Flat) → HasProgram program s u → replay (first_user_machine (booted s rows) u) j ≡ Some last
     → (answered : IsAnsweredJournal j) → FollowsMain program (first_flat (image_words program)) answered.events
 runs law program s rows u j last has replayed answered = law program has.checked has.small j answered last (ap (λ f. replay f j) (sym (starts program s rows u has)) ∙ replayed)
 
 pub booted_programs : ImagesRun → BootedProgramsRun
 booted_programs law session u s rows before old new status a program has answered =
-    let r = there _ (replay (first_of (booted s rows) u) a.entries) a.text a.text_is in
+    let r = there _ (replay (first_user_machine (booted s rows) u) a.entries) a.text a.text_is in
     runs law program s rows u a.entries r.0 has r.1 answered
 
 pub spent_programs : ImagesRun → SpentProgramsRun
 spent_programs law session u s rows before old new a program has answered = runs law program s rows u a.entries _ has a.replayed answered
 
 -- THE TEXT of a trace whose steps are spent
-text_so_far : (x : Environment) (y : System) (s : State) (v : View) (t : ℕ) (e : Ending) (text : List ℕ) → ended_as e ≡ StepLimit → TextAt x y s v t e text → Printed x y s v t text
-text_so_far x y s v t headline.Done text e h = absurd (cc)
-text_so_far x y s v t headline.KernelFaulted text e h = absurd (cc)
-text_so_far x y s v t headline.OutOfSteps text e h = h
+text_so_far : (x : Environment) (y : System) (s : State) (v : View) (t : ℕ) (e : RunEnd) (text : List ℕ) → status_of_end e ≡ StepLimit → TextAt x y s v t e text → Printed x y s v t text
+text_so_far x y s v t OutOfSteps text e h = h
+text_so_far x y s v t other text e h = absurd (cc)
 
 pub spent_traces : JournalsReplay → SpentTracesTell
 spent_traces law session u s rows before old new h sees traced =
-    let x = around rows old in
+    let x = environment_of rows old in
     let y = booted s rows in
-    let m = first_state session s rows before in
+    let m = start_state session s rows before in
     let t = end_within x m session.turns session.steps in
     let user : (1 ≤ u) × (u ≤ length s.users) = subst (λ (v : View). SeesUser v (length s.users)) traced sees in
     let so : Printed x y m session.view t h.text = text_so_far x y m session.view t h.ending h.text (sym h.status_is) h.ran.text_is in
@@ -83,5 +84,5 @@ spent_traces law session u s rows before old new h sees traced =
       entries_are = refl;
       more_are = refl;
       replayed = mine.1;
-      printed = h.printed ∙ ap (λ (a : List ℕ). append_known old.sink.text a) (text ∙ ap (λ (k : List JournalEntry). start_row u (first_of y u) ++ open_journal_rows k) shown.is);
+      printed = h.printed ∙ ap (λ (a : List ℕ). append_known old.sink.text a) (text ∙ ap (λ (k : List JournalEntry). start_row u (first_user_machine y u) ++ open_journal_rows k) shown.is);
     }

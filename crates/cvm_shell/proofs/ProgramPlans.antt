@@ -14,7 +14,7 @@ use Rattle.user_c0.specs.Compiled.{IsSizeFaultOf}
 use Rattle.user_c0.specs.Image.{image_words}
 use Rattle.user_c0.specs.Program.{MAX_IMAGE}
 use Rattle.run_scripts.specs.Refusal.{bad_program}
-use Rattle.run_scripts.specs.Plan.{refuses, puts, bytes_of, AfterProgram, program_plan, IsPlan}
+use Rattle.run_scripts.specs.Plan.{refuses, puts, user_bytes, AfterProgram, program_plan, IsPlan}
 use Rattle.cvm_shell.specs.Stages.{program_stop}
 use Rattle.cvm_shell.specs.Views.{IfRefused}
 use Rattle.cvm_shell.proofs.CodePlans.{plan_compiles}
@@ -26,7 +26,7 @@ module _ (law : LeastIsThere) (name source : List ℕ) (u : CUnit) where
   large : (words : ℕ) → (words ≡ length (image_words u)) × (MAX_IMAGE < length (image_words u)) → refuses (bad_program (TooLarge words)) ≡ program_plan name u
   large words h =
       ap (λ (n : ℕ). refuses (bad_program (TooLarge n))) h.0
-      ∙ sym (cond-true (nat_lt MAX_IMAGE (length (image_words u))) (refuses (bad_program (TooLarge (length (image_words u))))) (puts name (bytes_of (image_words u))) (lt-ltb MAX_IMAGE (length (image_words u)) h.1))
+      ∙ sym (cond-true (nat_lt MAX_IMAGE (length (image_words u))) (refuses (bad_program (TooLarge (length (image_words u))))) (puts name (user_bytes (image_words u))) (lt-ltb MAX_IMAGE (length (image_words u)) h.1))
 
   -- a fault of the unit is refused
   pub refused_plan : (f : UserFault) → length source ≤ 1048576 → IsUnitAs User source u → Typed → IsSizeFaultOf u f → IfRefused (IsPlan ⊤ (AfterProgram name source)) (program_stop f)
@@ -34,9 +34,9 @@ module _ (law : LeastIsThere) (name source : List ℕ) (u : CUnit) where
   refused_plan Memory short is each h = tt
 
   -- the image is put
-  pub put_plan : (words bytes : List ℕ) → length source ≤ 1048576 → IsUnitAs User source u → Typed → words ≡ image_words u → length words ≤ MAX_IMAGE → bytes ≡ bytes_of words
+  pub put_plan : (words bytes : List ℕ) → length source ≤ 1048576 → IsUnitAs User source u → Typed → words ≡ image_words u → length words ≤ MAX_IMAGE → bytes ≡ user_bytes words
       → IsPlan ⊤ (AfterProgram name source) (puts name bytes)
   put_plan words bytes short is each image few e =
       let le : length (image_words u) ≤ MAX_IMAGE = subst (λ ws. length ws ≤ MAX_IMAGE) image few in
       plan_compiles User (program_plan name) law source u short is each (puts name bytes)
-      (ap (puts name) (e ∙ ap bytes_of image) ∙ sym (cond-false (nat_lt MAX_IMAGE (length (image_words u))) (refuses (bad_program (TooLarge (length (image_words u))))) (puts name (bytes_of (image_words u))) (le-ltb MAX_IMAGE (length (image_words u)) le)))
+      (ap (puts name) (e ∙ ap user_bytes image) ∙ sym (cond-false (nat_lt MAX_IMAGE (length (image_words u))) (refuses (bad_program (TooLarge (length (image_words u))))) (puts name (user_bytes (image_words u))) (le-ltb MAX_IMAGE (length (image_words u)) le)))

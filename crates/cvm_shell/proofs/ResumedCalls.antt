@@ -1,5 +1,5 @@
 -- What is done of the plan of a resume, by the calls of the call that takes its machine up and goes on with it.
-use Rattle.std.proofs.Common.{◌≡◌, ◌≢◌, ◌⊎◌, inl, inr, ℕ, zero, suc, ◌+◌, ◌-◌, ◌<◌, ◌≤◌, Bool, true, false, List, ◌++◌, refl, sym, ap, ◌∙◌, ap₂, subst, Some, None, Ok, Err, arith}
+use Rattle.std.proofs.Common.{◌≡◌, ◌≢◌, ◌⊎◌, inl, inr, ℕ, ◌+◌, ◌-◌, ◌<◌, ◌≤◌, List, ◌++◌, refl, sym, ap, ◌∙◌, ap₂, subst, Some, None, Ok, Err, arith}
 use Rattle.std.specs.Prelude.{Option, Result, slice_index}
 use Rattle.std.specs.List.{flat_map}
 use Rattle.cvm_words.specs.Bytes.{word}
@@ -13,10 +13,10 @@ use Rattle.saved_file.specs.Answer.{answer as machine_of}
 use Rattle.saved_file.specs.declared.fault.SaveFault.{SaveFault}
 use Rattle.saved_file.specs.declared.fault.SaveFault.TheVariants as saving
 use Rattle.schedule_file.specs.Rows.{Rows}
-use Rattle.boot_turns.specs.Runs.{Run, turns_at, state_at, steps_made, has_ended, cvm_at}
+use Rattle.boot_turns.specs.Runs.{Run, turns_at, state_at, steps_made, has_ended}
 use Rattle.boot_turns.specs.declared.answers.View.TheVariants as view
 use Rattle.boot_run.specs.declared.whole.RunEnd.{RunEnd}
-use Rattle.boot_run.specs.AnyScripts.{end_by_power, power_end, untold_rest}
+use Rattle.boot_run.specs.AnyScripts.{power_end, untold_rest}
 use Rattle.boot_run.specs.Closing.{says}
 use Rattle.boot_run.specs.Loading.{system_of as loaded_system}
 use Rattle.boot_run.specs.LoadEnds.{pages_needed}
@@ -26,7 +26,7 @@ use Rattle.boot_run.specs.SavedFiles.{wanted_of}
 use Rattle.machine_save.specs.ResumeCalls.{ResumeScript}
 use Rattle.machine_save.specs.ResumeRun.{ResumeAnswers}
 use Rattle.machine_save.specs.declared.resuming.ResumeFault.TheVariants as fault
-use Rattle.kernel_linker.specs.Accept.{ImageSystem, system_of}
+use Rattle.kernel_linker.specs.Accept.{ImageSystem, image_system}
 use Rattle.run_scripts.specs.declared.exit_status.Status.{Status}
 use Rattle.run_scripts.specs.declared.exit_status.Status.TheVariants.{Refused, Disk, Memory}
 use Rattle.cvm_shell.specs.declared.boot.Ready.{Ready}
@@ -39,24 +39,24 @@ use Rattle.run_scripts.specs.Boot.{sectors_needed}
 use Rattle.run_scripts.specs.Command.{Save, save_session}
 use Rattle.run_scripts.specs.Plan.{Plan, bad_words, refuses, resumes, taken_plan, wanted_by}
 use Rattle.run_scripts.specs.Refusal.{bad_save, small_disk, too_long, refusal_text}
-use Rattle.run_scripts.specs.RunStatus.{power_status, run_status}
+use Rattle.run_scripts.specs.RunStatus.{power_status, run_status, status_of_end}
 use Rattle.run_scripts.specs.SessionRuns.{run_of}
-use Rattle.cvm_shell.specs.Stages.{resumable_for, save_stop, resume_stop, status_of_end}
+use Rattle.cvm_shell.specs.Stages.{resumable_for, save_stop, resume_stop}
 use Rattle.run_scripts.specs.Ends.{small, over_told, over_untold, SavedRun, Joins, answered}
 use Rattle.cvm_shell.specs.Does.{Acts, SaysAs, SaysStop, DoesPlan, DoesOrWants}
 use Rattle.machine_save.specs.declared.resuming.ResumeFault.{ResumeFault}
 use Rattle.cvm_shell.proofs.StartAnswers.{same_wanted, same_need}
 use Rattle.cvm_shell.proofs.GotCalls.{beside}
-use Rattle.cvm_shell.proofs.Doing.{acted, refusal_plan}
-use Rattle.cvm_shell.proofs.SystemCalls.{by_end, same_status, some_status, named}
+use Rattle.cvm_shell.proofs.StageEnds.{acted, refusal_plan}
+use Rattle.cvm_shell.proofs.SystemCalls.{by_end, some_status, named}
 
 -- what the bytes are answered by tells the plan
 pub answered_so : (r : Resumable) (c : Save) (P : Plan → Type 0) (a : Result (List ℕ) SaveFault) → machine_of (wanted_of r.ready.boot r.ready.schedule c.boot.turns) r.bytes.items ≡ a
-    → P (taken_plan (save_session c) (system_of r.ready.boot) r.ready.schedule a) → P (resumable_for c r)
+    → P (taken_plan (save_session c) (image_system r.ready.boot) r.ready.schedule a) → P (resumable_for c r)
 answered_so r c P a e h =
-    let same : a ≡ machine_of (wanted_by (system_of r.ready.boot) r.ready.schedule c.boot.turns) r.bytes.items =
+    let same : a ≡ machine_of (wanted_by (image_system r.ready.boot) r.ready.schedule c.boot.turns) r.bytes.items =
     sym e ∙ ap (λ (w : Wanted). machine_of w r.bytes.items) (same_wanted r.ready.boot r.ready.schedule c.boot.turns) in
-    subst (λ (x : Result (List ℕ) SaveFault). P (taken_plan (save_session c) (system_of r.ready.boot) r.ready.schedule x)) same h
+    subst (λ (x : Result (List ℕ) SaveFault). P (taken_plan (save_session c) (image_system r.ready.boot) r.ready.schedule x)) same h
 
 -- the plan is of a command, and refuses no file that is too long
 pub taken_words : (session : Session) (s : ImageSystem) (rows : Rows) (a : Result (List ℕ) SaveFault) → taken_plan session s rows a ≢ bad_words
@@ -67,15 +67,6 @@ pub taken_short : (session : Session) (s : ImageSystem) (rows : Rows) (a : Resul
 taken_short session s rows (Ok words) e = cc
 taken_short session s rows (Err f) e = cc
 
--- THE STATUS of an end: of the one that the power word tells
-by_power : (ended : Bool) (off : Option ℕ) → status_of_end (end_by_power ended off) ≡ power_status ended off
-by_power false None = refl
-by_power false (Some zero) = refl
-by_power false (Some (suc n)) = refl
-by_power true None = refl
-by_power true (Some zero) = refl
-by_power true (Some (suc n)) = refl
-
 not_told : (left : List (List ℕ)) → None ≡ Some left → ⊥
 not_told left e = cc
 
@@ -84,7 +75,7 @@ module _ {O D : Type 0} (text : sink_of.Ghosts O) (told : sectors_of.Ghosts D) (
     (spells : bytes ≡ flat_map word words) (can : CanBeResumed (wanted_of r.boot r.schedule c.boot.turns) words) (room : pages_needed r.boot ≤ told.size disk)
     (script : ResumeScript text told r.boot r.schedule c.boot.turns c.boot.steps bytes (out, disk) (reout, redisk) (Ok e)) where
   abbrev s : ImageSystem
-  s = system_of r.boot
+  s = image_system r.boot
 
   abbrev before : Outside
   before = record { shelf = shelf; sink = output text out; disk = drive told disk }
@@ -105,7 +96,7 @@ module _ {O D : Type 0} (text : sink_of.Ghosts O) (told : sectors_of.Ghosts D) (
       let turns : slice_index words 5 ≡ turns_at q made = ap (λ (ws : List ℕ). slice_index ws 5) b.saved.words_are in
       let h = script.rest a.sectors left words past made room a.disk is spells b.saved
       (subst (λ (n : ℕ). 1 ≤ n) turns can.a_turn) (subst (λ (n : ℕ). n ≤ c.boot.turns) turns can.turns) in
-      (h.made shelf, sym stands ∙ by_end e (due_end q past) (run_status q past) h.is (same_status (has_ended q) (cvm_at q past (steps_made q)).status))) a
+      (h.made shelf, sym stands ∙ by_end e (due_end q past) (run_status q past) h.is refl)) a
 
   pub went_on_does : machine_of (wanted_of r.boot r.schedule c.boot.turns) bytes ≡ Ok words → DoesPlan (resumes (save_session c) s r.schedule words) before after (status_of_end e)
   went_on_does is = of (told.sectors disk) refl
@@ -116,7 +107,7 @@ module _ {O D : Type 0} (text : sink_of.Ghosts O) (told : sectors_of.Ghosts D) (
           let run : Run = run_at (outside_of r.schedule (told.size disk)) (loaded_system r.boot r.schedule) f.machine view.Boot (c.boot.turns - f.finished) (c.boot.steps - f.machine.time) in
           let off : Option ℕ = (state_at run (steps_made run)).off in
           let stands : status_of_end e ≡ answered (power_status (has_ended run) off) (of_end e) =
-          by_end e (power_end run) (power_status (has_ended run) off) f.ends.ends.is (by_power (has_ended run) off) in
+          by_end e (power_end run) (power_status (has_ended run) off) f.ends.ends.is refl in
           record {
             script = untold_rest run 0 ++ f.ends.report;
             due = power_status (has_ended run) off;
@@ -150,9 +141,14 @@ pub taken_does : {O D : Type 0} (text : sink_of.Ghosts O) (told : sectors_of.Gho
     ResumeAnswers r.ready.boot r.ready.schedule c.boot.turns (told.size disk) r.bytes.items (Ok e) →
     ResumeScript text told r.ready.boot r.ready.schedule c.boot.turns c.boot.steps r.bytes.items (out, disk) (reout, redisk) (Ok e) →
     DoesPlan (resumable_for c r) (record { shelf = shelf; sink = output text out; disk = drive told disk }) (record { shelf = shelf; sink = output text reout; disk = drive told redisk }) (status_of_end e)
-taken_does text told r c out reout disk redisk shelf e (words, a, spells, can, room) script =
+taken_does text told r c out reout disk redisk shelf e (words, (a, spells, can, room)) script =
     answered_so r c (λ (p : Plan). DoesPlan p (record { shelf = shelf; sink = output text out; disk = drive told disk }) (record { shelf = shelf; sink = output text reout; disk = drive told redisk }) (status_of_end e))
     (Ok words) a (went_on_does text told r.ready c r.bytes.items words out reout disk redisk shelf e spells can room script a)
+
+-- a sink and a disk that stay both
+module _ {O D : Type 0} (out reout : O) (disk redisk : D) where
+  pub stay_both : ◌≡◌ {A = O × D} (reout, redisk) (out, disk) → (redisk ≡ disk) × (reout ≡ out)
+  stay_both e = (ap (λ (q : O × D). q.1) e, ap (λ (q : O × D). q.0) e)
 
 -- a fault of a file is want of memory, or it is refused
 save_stops : (f : SaveFault) → (f ≡ saving.Memory) ⊎ ((f ≢ saving.Memory) × (save_stop f ≡ Stops.Refused (by.BadSave f)))
@@ -177,7 +173,7 @@ small_resume : (r : Resumable) (c : Save) (old new : Outside) (need have : ℕ) 
     → Acts (says (refusal_text (small_disk need have))) Disk old new status → DoesPlan (resumable_for c r) old new status
 small_resume r c old new need have status (words, a, n, h, less) acts =
     let session : Session = save_session c in
-    let s : ImageSystem = system_of r.ready.boot in
+    let s : ImageSystem = image_system r.ready.boot in
     let needed : need ≡ sectors_needed session s r.ready.schedule = n ∙ same_need r.ready.boot r.ready.schedule in
     let few : old.disk.size < sectors_needed session s r.ready.schedule = subst (λ (k : ℕ). old.disk.size < k) needed (subst (λ (k : ℕ). k < need) h less) in
     answered_so r c (λ (p : Plan). DoesPlan p old new status) (Ok words) a

@@ -30,7 +30,7 @@ use Rattle.cvm_shell.specs.Stages.{source_stop, link_stop}
 use Rattle.cvm_shell.specs.Views.{IfRefused, IfPlan}
 use Rattle.cvm_shell.proofs.Plans.{if_plan}
 use Rattle.cvm_shell.proofs.SourceStops.{unread_stops, mistyped_stops}
-use Rattle.cvm_shell.proofs.Fronts.{OneAnswer, answer_or_memory, one_fault, not_both}
+use Rattle.cvm_shell.proofs.SourceFronts.{OneAnswer, answer_or_memory, one_fault, not_both}
 use Rattle.cvm_shell.proofs.LinkPlans.{Layers, unfit_answers, no_unit, memory_of, link_stops}
 
 -- what comes of a source's one answer is the plan

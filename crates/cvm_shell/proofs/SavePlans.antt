@@ -16,8 +16,8 @@ use Rattle.cvm_shell.specs.declared.refusal.Refusal.{Refusal as ByCode}
 use Rattle.cvm_shell.specs.declared.refusal.Refusal.TheVariants as by
 use Rattle.run_scripts.specs.Command.{Save, save, save_session}
 use Rattle.run_scripts.specs.Refusal.{bad_save}
-use Rattle.run_scripts.specs.Plan.{Plan, refuses, boots, saves, frames_of, most_bytes, saved_plan, taken_up, AfterFiles, AfterThree, IsPlan}
-use Rattle.cvm_shell.specs.Stages.{save_stop, HasNoRoom, IsBootPlan, FilesPlan}
+use Rattle.run_scripts.specs.Plan.{Plan, refuses, boots, saves, frames_of, most_bytes, saved_plan, take_up_plan, AfterFiles, AfterThree, IsPlan}
+use Rattle.cvm_shell.specs.Stages.{save_stop, HasNoSaveRoom, IsBootPlan, FilesPlan}
 use Rattle.cvm_shell.specs.Views.{refusal_view, IfRefused}
 
 abbrev Layers : Type 0
@@ -62,7 +62,7 @@ save_short layer file c s rows is few =
     (saved_comes layer file c (boots (save_session c) s rows) is)
 
 -- there is none
-pub save_no_room : (layer : Layers) (file : Told) (c : Save) (s : ImageSystem) (rows : Rows) (t : Stop) → IsBootPlan layer file c.boot (save_session c) (boots (save_session c) s rows) → HasNoRoom s t
+pub save_no_room : (layer : Layers) (file : Told) (c : Save) (s : ImageSystem) (rows : Rows) (t : Stop) → IsBootPlan layer file c.boot (save_session c) (boots (save_session c) s rows) → HasNoSaveRoom s t
     → IfRefused (FilesPlan layer file (save c)) t
 save_no_room layer file c s rows (Refused r) is (e, many) =
     subst (λ (x : ByCode). FilesPlan layer file (save c) (refuses (refusal_view x))) (sym e)
@@ -75,9 +75,9 @@ save_no_room layer file c s rows Memory is h = tt
 
 -- what comes after its files is what comes after those of its boot
 pub three_come : (layer : Layers) (session : Session) (image schedule bytes : List ℕ) (q : Plan) → IsPlan ⊤ (AfterFiles layer session image schedule) q
-    → IsPlan ⊤ (AfterThree layer session image schedule bytes) (taken_up bytes q)
+    → IsPlan ⊤ (AfterThree layer session image schedule bytes) (take_up_plan bytes q)
 three_come layer session image schedule bytes q is =
-    record { comes = (q, is.comes, refl); only = λ told p other. other.2 ∙ ap (taken_up bytes) (is.only told other.0 other.1) }
+    record { comes = (q, is.comes, refl); only = λ told p other. other.2 ∙ ap (take_up_plan bytes) (is.only told other.0 other.1) }
 
 -- what stops its boot there stops it
 pub three_stopped : (layer : Layers) (session : Session) (image schedule bytes : List ℕ) (t : Stop) → IfRefused (IsPlan ⊤ (AfterFiles layer session image schedule)) t
@@ -87,7 +87,7 @@ three_stopped layer session image schedule bytes Shelf h = tt
 three_stopped layer session image schedule bytes Memory h = tt
 
 -- no room for a machine of so many frames
-pub room_fault : (frames : ℕ) (s : ImageSystem) (f : SaveFault) → frames ≡ frames_of s → IsRoom frames (Err f) → HasNoRoom s (save_stop f)
+pub room_fault : (frames : ℕ) (s : ImageSystem) (f : SaveFault) → frames ≡ frames_of s → IsRoom frames (Err f) → HasNoSaveRoom s (save_stop f)
 room_fault frames s (saving.SaveTooLarge bytes) e (is, many) =
     let same : bytes ≡ most_bytes s = is ∙ ap (λ (n : ℕ). 4 * most_words n) e in
     (ap (λ (n : ℕ). by.BadSave (saving.SaveTooLarge n)) same, subst (λ (n : ℕ). FILE_ROOM < n) same many)
@@ -108,7 +108,7 @@ pub room_words : (frames : ℕ) (s : ImageSystem) (room : Filled) → frames ≡
 room_words frames s room e (few, words, file) = words ∙ ap most_words e
 
 -- want of room is no fault of the shelf, and no file is too long
-pub no_room_stops : (s : ImageSystem) (stop : Stop) → HasNoRoom s stop → (stop ≢ Shelf) × (stop ≢ Refused by.TooLong)
+pub no_room_stops : (s : ImageSystem) (stop : Stop) → HasNoSaveRoom s stop → (stop ≢ Shelf) × (stop ≢ Refused by.TooLong)
 no_room_stops s (Refused r) h = (λ e. cc, λ e. let d = h.0 in cc)
 no_room_stops s Shelf h = absurd h
 no_room_stops s Memory h = (λ e. cc, λ e. cc)

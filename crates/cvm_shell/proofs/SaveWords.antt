@@ -2,7 +2,7 @@
 use Rattle.std.proofs.Common.{◌≡◌, ℕ, ◌<◌, ◌≤◌, ◌^◌, List, [], ◌∷◌, refl, sym, ap, ◌∙◌}
 use Rattle.std.specs.Prelude.{decimal}
 use Rattle.run_scripts.specs.declared.session.StartPoint.TheVariants.{Loaded}
-use Rattle.run_scripts.specs.Command.{Boot, Save, start_word, IsBoot, IsSaveBy}
+use Rattle.run_scripts.specs.Command.{BootCommand, Save, start_word, IsBoot, IsSaveBy}
 use Rattle.cvm_shell.proofs.Spellings.{words_of_one, none_for_turns, none_for_steps}
 
 -- these words, with numbers that they spell, are a save
@@ -31,7 +31,7 @@ pub words_of_one_save : (first : List ℕ) (words : List (List ℕ)) (word image
 words_of_one_save first words word image schedule t s file turns steps e a fit c less x is =
     let inside = words_inside first words word image schedule t s file e x is in
     let here = words_of_one (start_word x.boot.start ∷ image ∷ schedule ∷ t ∷ s ∷ []) Loaded (start_word x.boot.start) image schedule t s turns steps refl (ap start_word is.loaded) a fit c less x.boot inside.0 in
-    let save_of : Boot → List ℕ → Save = λ b f. record { boot = b; file = f } in
+    let save_of : BootCommand → List ℕ → Save = λ b f. record { boot = b; file = f } in
     ap (λ b. save_of b file) here ∙ ap (λ f. save_of x.boot f) inside.1
 
 -- words of which one spells no number of its kind are no save

@@ -1,29 +1,28 @@
 -- What is done of the plan of a save, by the calls of the call that runs its system and puts its file.
-use Rattle.std.proofs.Common.{◌≡◌, inl, inr, ℕ, ◌-◌, ◌≤◌, Bool, true, false, List, [], ◌++◌, append_assoc, append-nil, refl, sym, ap, ap₂, ◌∙◌, subst, arith, Some, None, Ok, Err}
-use Rattle.std.specs.Prelude.{Option, Result, IfErr, OnErr, if◌then◌else◌}
+use Rattle.std.proofs.Common.{◌≡◌, ◌≢◌, inl, inr, ℕ, ◌-◌, ◌≤◌, Bool, true, false, List, [], ◌++◌, append-nil, refl, sym, ap, ◌∙◌, subst, Some, None, Ok, Err}
+use Rattle.std.specs.Prelude.{Option, Result, OnErr, if◌then◌else◌}
 use Rattle.cvm_outside.specs.Outside.{Outside}
 use Rattle.cvm_outside.specs.Script.{Call}
 use Rattle.cvm_outside.specs.declared.shelf.Shelf as shelf_of
 use Rattle.cvm_outside.specs.declared.sink.Sink as sink_of
 use Rattle.cvm_outside.specs.declared.sectors.Sectors as sectors_of
-use Rattle.cvm_outside.proofs.Putting.{same_script}
 use Rattle.cvm_model.specs.Cvm.{Status as CvmStatus, Running, Halted, Faulted}
 use Rattle.layer_contract.specs.Follows.{loaded}
 use Rattle.boot_turns.specs.LoopScripts.{AreOfRun}
-use Rattle.boot_turns.specs.Runs.{Run, Past, steps_made, has_ended, cvm_at}
-use Rattle.boot_turns.specs.StepScript.{steps_script}
+use Rattle.boot_turns.specs.Runs.{Run, steps_made, has_ended, cvm_at}
 use Rattle.boot_run.specs.declared.load.LoadFault.{LoadFault}
+use Rattle.boot_run.specs.declared.load.LoadFault.TheVariants as load
 use Rattle.boot_run.specs.declared.whole.RunEnd.{RunEnd}
 use Rattle.boot_run.specs.declared.whole.RunEnd.TheVariants as ends
-use Rattle.boot_run.specs.Closing.{closing_script}
 use Rattle.boot_run.specs.Loading.{system_of as loaded_system}
 use Rattle.boot_run.specs.LoadedPages.{user_pages}
 use Rattle.boot_run.specs.LoadEnds.{pages_needed}
 use Rattle.boot_run.specs.LoadScript.{load_script}
-use Rattle.boot_run.specs.RunCalls.{loads, of_end, of_answer}
-use Rattle.boot_run.specs.SaveCalls.{stop_script, stop_by, due_stop, unless_on}
-use Rattle.machine_save.specs.SaveCalls.{leave_script, put_script, SomeLeft, SavedScript}
-use Rattle.kernel_linker.specs.Accept.{system_of}
+use Rattle.boot_run.specs.RunCalls.{loads, of_end, of_answer, end_by}
+use Rattle.boot_run.specs.SaveCalls.{stop_by, due_stop}
+use Rattle.boot_run.specs.RunScript.{save_script, put_script}
+use Rattle.machine_save.specs.SaveCalls.{SomeLeft, SavedScript}
+use Rattle.kernel_linker.specs.Accept.{image_system}
 use Rattle.run_scripts.specs.declared.exit_status.Status.{Status}
 use Rattle.run_scripts.specs.declared.exit_status.Status.TheVariants.{Done}
 use Rattle.cvm_shell.specs.declared.boot.Ready.{Ready}
@@ -31,9 +30,8 @@ use Rattle.run_scripts.specs.Boot.{sectors_needed}
 use Rattle.run_scripts.specs.Command.{Save, save_session}
 use Rattle.run_scripts.specs.Plan.{saves}
 use Rattle.run_scripts.specs.SessionRuns.{run_of}
-use Rattle.run_scripts.specs.RunStatus.{status_of, run_status, save_script, leaving_script}
-use Rattle.cvm_shell.specs.Stages.{status_of_end}
-use Rattle.run_scripts.specs.Ends.{over_told, over_untold, SomeSaveAsks, as_boot, is_saved, load_of, answered, seen}
+use Rattle.run_scripts.specs.RunStatus.{run_status, status_of_end}
+use Rattle.run_scripts.specs.Ends.{over_told, over_untold, SomeSaveAsks, as_boot, is_saved, session_load, answered, as_outside}
 use Rattle.cvm_shell.specs.Does.{DoesPlan, SavedCalls, SessionPasts}
 use Rattle.cvm_shell.proofs.StartAnswers.{same_need}
 use Rattle.cvm_shell.proofs.SystemCalls.{status_by, told_status, some_status}
@@ -46,30 +44,8 @@ ready_calls shelf text told r c answer old new w =
     subst (λ (n : ℕ). SavedScript shelf text told (loaded_system r.boot r.schedule) r.schedule (loaded (loaded_system r.boot r.schedule)) c.boot.turns c.boot.steps
     (load_script (user_pages (loaded_system r.boot r.schedule)) n) c.file old new answer) (same_need r.boot r.schedule) w
 
--- THE SCRIPT is that of a save: the boot up to where it stops, and what is called there; or its end
-parts : (name : List ℕ) (r : Run) (p : Past) (ended : Bool) (st : CvmStatus) →
-    (if ended then unless_on st (closing_script r p) else []) ++ leave_script name r p (stop_by ended st) ≡ (if ended then leaving_script name r p st else [])
-parts name r p false Running = refl
-parts name r p false Halted = refl
-parts name r p false (Faulted f) = refl
-parts name r p true Running = refl
-parts name r p true Halted = append-nil (closing_script r p)
-parts name r p true (Faulted f) = append-nil (closing_script r p)
-
-script_is : (name : List ℕ) (r : Run) (begin : List Call) (p : Past) → begin ++ stop_script r p 0 ++ leave_script name r p (due_stop r p) ≡ save_script name r begin p
-script_is name r begin p =
-    let tail : List Call = if has_ended r then unless_on (cvm_at r p (steps_made r)).status (closing_script r p) else [] in
-    let none : steps_made r - 0 ≡ steps_made r = omega arith in
-    let left : List Call = leave_script name r p (due_stop r p) in
-    append_assoc begin (steps_script r p 0 (steps_made r - 0) ++ tail) left
-    ∙ ap (λ (l : List Call). begin ++ l) (
-    append_assoc (steps_script r p 0 (steps_made r - 0)) tail left
-    ∙ ap (λ (n : ℕ). steps_script r p 0 n ++ (tail ++ left)) none
-    ∙ ap (λ (l : List Call). steps_script r p 0 (steps_made r) ++ l) (parts name r p (has_ended r) (cvm_at r p (steps_made r)).status))
-    ∙ sym (append_assoc begin (steps_script r p 0 (steps_made r)) (if has_ended r then leaving_script name r p (cvm_at r p (steps_made r)).status else []))
-
 -- THE STATUS of the end that is due
-same_stop : (ended : Bool) (st : CvmStatus) → status_of_end (stop_by ended st) ≡ status_of ended st
+same_stop : (ended : Bool) (st : CvmStatus) → status_of_end (stop_by ended st) ≡ status_of_end (end_by ended st)
 same_stop false Running = refl
 same_stop false Halted = refl
 same_stop false (Faulted f) = refl
@@ -111,21 +87,27 @@ some_save name begin more left (Ok ends.DiskFault) begun are e = none_left name 
 some_save name begin more left (Err f) begun are e = none_left name begin more left (Err f) begun are e
 
 -- nothing was called where nothing is loaded
-pub unmoved_all : {A S O D : Type 0} (answer : Result A LoadFault) (see : S → O → D → Outside) (s s1 : S) (o o1 : O) (d d1 : D) → IfErr answer (λ e. s1 ≡ s) → IfErr answer (λ e. o1 ≡ o) → OnErr answer (d1 ≡ d)
-    → OnErr answer (see s1 o1 d1 ≡ see s o d)
-unmoved_all (Ok x) see s s1 o o1 d d1 h k l = tt
-unmoved_all {S = S} (Err e) see s s1 o o1 d d1 h k l = ap (λ (x : S). see x o1 d1) h ∙ ap₂ (see s) k l
+module _ {S O D : Type 0} (see : S → O → D → Outside) (s s1 : S) (o o1 : O) (d d1 : D) where
+  same_all : ◌≡◌ {A = S × O × D} (s1, o1, d1) (s, o, d) → see s1 o1 d1 ≡ see s o d
+  same_all e = ap (λ (q : S × O × D). see q.0 q.1 q.2) e
+
+  pub unmoved_all : (answer : Result RunEnd LoadFault) → (loads answer ≡ false → ◌≡◌ {A = S × O × D} (s1, o1, d1) (s, o, d)) → answer ≢ Err load.Disk → OnErr answer (see s1 o1 d1 ≡ see s o d)
+  unmoved_all (Ok x) none other = tt
+  unmoved_all (Err load.Disk) none other = absurd (other refl)
+  unmoved_all (Err load.Memory) none other = same_all (none refl)
+  unmoved_all (Err (load.SmallDisk need have)) none other = same_all (none refl)
+  unmoved_all (Err (load.NoSuchUser user users)) none other = same_all (none refl)
 
 -- A RUN WAS BEGUN that is to be saved
 module _ {S O D : Type 0} (shelf : shelf_of.Ghosts S) (text : sink_of.Ghosts O) (told : sectors_of.Ghosts D) (r : Ready) (c : Save) (s s1 : S) (o o1 : O) (d d1 : D) where
   pub saved_does : (answer : Result RunEnd LoadFault) → loads answer ≡ true → SavedCalls shelf text told r c answer (s, o, d) (s1, o1, d1) → SessionPasts r (save_session c) (told.size d) (told.sectors d)
-      → sectors_needed (save_session c) (system_of r.boot) r.schedule ≤ told.size d → DoesPlan (saves (save_session c) (system_of r.boot) r.schedule c.file) (seen shelf text told s o d) (seen shelf text told s1 o1 d1) (status_by answer)
+      → sectors_needed (save_session c) (image_system r.boot) r.schedule ≤ told.size d → DoesPlan (saves (save_session c) (image_system r.boot) r.schedule c.file) (as_outside shelf text told s o d) (as_outside shelf text told s1 o1 d1) (status_by answer)
   saved_does answer begun calls pasts room = by (told.sectors d) refl
     where
-      by : (sectors : Option (List (List ℕ))) → told.sectors d ≡ sectors → DoesPlan (saves (save_session c) (system_of r.boot) r.schedule c.file) (seen shelf text told s o d) (seen shelf text told s1 o1 d1) (status_by answer)
+      by : (sectors : Option (List (List ℕ))) → told.sectors d ≡ sectors → DoesPlan (saves (save_session c) (image_system r.boot) r.schedule c.file) (as_outside shelf text told s o d) (as_outside shelf text told s1 o1 d1) (status_by answer)
       by (Some sectors) e =
-          let run : Run = run_of (save_session c) (system_of r.boot) r.schedule (told.size d) sectors in
-          let begin : List Call = load_of (save_session c) (system_of r.boot) r.schedule in
+          let run : Run = run_of (save_session c) (image_system r.boot) r.schedule (told.size d) sectors in
+          let begin : List Call = session_load (save_session c) (image_system r.boot) r.schedule in
           let past = pasts sectors e tt room in
           let made = calls.exact begun sectors past.0 e past.1 in
           record {
@@ -133,12 +115,12 @@ module _ {S O D : Type 0} (shelf : shelf_of.Ghosts S) (text : sink_of.Ghosts O) 
             due = run_status run past.0;
             asks = over_told sectors _ _ tt room e (record { past = past.0; is_past = past.1; script_is = refl; status_is = refl });
             blamed = of_answer answer;
-            performs = same_script (begin ++ stop_script run past.0 0 ++ leave_script c.file run past.0 (due_stop run past.0)) (save_script c.file run begin past.0) _ _ (of_answer answer) (script_is c.file run begin past.0) made.0;
+            performs = made.0;
             joins = tt;
             status_is = told_status answer (due_stop run past.0) (run_status run past.0) begun made.1 (same_stop (has_ended run) (cvm_at run past.0 (steps_made run)).status);
           }
       by None e =
-          let begin : List Call = load_of (save_session c) (system_of r.boot) r.schedule in
+          let begin : List Call = session_load (save_session c) (image_system r.boot) r.schedule in
           let made = calls.some begun in
           let st = some_save c.file begin made.0 made.2 answer begun made.1 made.3 in
           record {

@@ -4,17 +4,17 @@ use Rattle.std.specs.Prelude.{decimal, codes}
 use Rattle.std.specs.List.{prefix_len}
 use Rattle.std.specs.Char.{is_ascii_digit}
 use Rattle.std.proofs.lemmas.Fmt.{decimal_injective}
-use Rattle.cvm_text.specs.Number.{number_at}
+use Rattle.cvm_text.specs.Number.{spelled_number_at}
 use Rattle.run_scripts.specs.CompileProgram.{CompileProgram, IsCompileProgram}
 use Rattle.run_scripts.specs.declared.session.StartPoint.{StartPoint}
 use Rattle.run_scripts.specs.declared.session.StartPoint.TheVariants.{Loaded, Rom}
-use Rattle.run_scripts.specs.Command.{Boot, Trace, CompileUser, CompileKernel, Migrate, Sample, start_word, IsBoot, IsTrace, IsCompileUser, IsCompileKernel, IsLink, IsMigrate, IsSample}
+use Rattle.run_scripts.specs.Command.{BootCommand, Trace, CompileUser, CompileKernel, Migrate, Sample, start_word, IsBoot, IsTrace, IsCompileUser, IsCompileKernel, IsLink, IsMigrate, IsSample}
 
 -- that the numbers which are spelled are read, as the reader of numbers says it
 abbrev pub AreRead : Type 0
-AreRead = (bytes : List ℕ) (at n : ℕ) (rest : List ℕ) → n < 2 ^ 64 → drop at bytes ≡ decimal n ++ rest → prefix_len is_ascii_digit rest ≡ 0 → number_at bytes at ≡ Some (n, at + length (decimal n))
+AreRead = (bytes : List ℕ) (at n : ℕ) (rest : List ℕ) → n < 2 ^ 64 → drop at bytes ≡ decimal n ++ rest → prefix_len is_ascii_digit rest ≡ 0 → spelled_number_at bytes at ≡ Some (n, at + length (decimal n))
 
-pub whole_number : AreRead → (text : List ℕ) (n : ℕ) → n < 2 ^ 64 → text ≡ decimal n → number_at text 0 ≡ Some (n, length text)
+pub whole_number : AreRead → (text : List ℕ) (n : ℕ) → n < 2 ^ 64 → text ≡ decimal n → spelled_number_at text 0 ≡ Some (n, length text)
 whole_number law text n small e =
     let front : drop 0 text ≡ decimal n ++ [] = e ∙ sym (append-nil (decimal n)) in
     let l : 0 + length (decimal n) ≡ length text = omega (arith, ap length e) in
@@ -40,7 +40,7 @@ words_of_boot words start word image schedule t s turns steps e w a some fit b l
 -- and no other
 pub words_of_one : (words : List (List ℕ)) (start : StartPoint) (word image schedule t s : List ℕ) (turns steps : ℕ) → words ≡ word ∷ image ∷ schedule ∷ t ∷ s ∷ [] → word ≡ start_word start
     → t ≡ decimal turns → turns < 2 ^ 32 → s ≡ decimal steps → steps < 2 ^ 64
-    → (b : Boot) → IsBoot words b → record { start = start; image = image; schedule = schedule; turns = turns; steps = steps } ≡ b
+    → (b : BootCommand) → IsBoot words b → record { start = start; image = image; schedule = schedule; turns = turns; steps = steps } ≡ b
 words_of_one words start word image schedule t s turns steps e w a fit c less b is =
     let spelled : word ∷ image ∷ schedule ∷ t ∷ s ∷ [] ≡ start_word b.start ∷ b.image ∷ b.schedule ∷ decimal b.turns ∷ decimal b.steps ∷ [] = sym e ∙ is.spelled in
     let first : word ≡ start_word b.start = cc in
@@ -53,26 +53,26 @@ words_of_one words start word image schedule t s turns steps e w a fit c less b 
     let h : start ≡ b.start = same_start start b.start (sym w ∙ first) in
     let m : turns ≡ b.turns = same_number t turns b.turns turns_small wanted_small a k in
     let n : steps ≡ b.steps = same_number s steps b.steps less is.steps_fit c l in
-    let boot_of : StartPoint → List ℕ → List ℕ → ℕ → ℕ → Boot = λ v x y z w. record { start = v; image = x; schedule = y; turns = z; steps = w } in
+    let boot_of : StartPoint → List ℕ → List ℕ → ℕ → ℕ → BootCommand = λ v x y z w. record { start = v; image = x; schedule = y; turns = z; steps = w } in
     ap (λ x. boot_of x image schedule turns steps) h ∙ ap (λ x. boot_of b.start x schedule turns steps) i ∙ ap (λ x. boot_of b.start b.image x turns steps) j
     ∙ ap (λ x. boot_of b.start b.image b.schedule x steps) m ∙ ap (λ x. boot_of b.start b.image b.schedule b.turns x) n
 
 -- words whose first names no start
-pub none_for_start : (words : List (List ℕ)) (word image schedule t s : List ℕ) → words ≡ word ∷ image ∷ schedule ∷ t ∷ s ∷ [] → ((a : StartPoint) → word ≡ start_word a → ⊥) → (b : Boot) → IsBoot words b → ⊥
+pub none_for_start : (words : List (List ℕ)) (word image schedule t s : List ℕ) → words ≡ word ∷ image ∷ schedule ∷ t ∷ s ∷ [] → ((a : StartPoint) → word ≡ start_word a → ⊥) → (b : BootCommand) → IsBoot words b → ⊥
 none_for_start words word image schedule t s e none b is =
     let spelled : word ∷ image ∷ schedule ∷ t ∷ s ∷ [] ≡ start_word b.start ∷ b.image ∷ b.schedule ∷ decimal b.turns ∷ decimal b.steps ∷ [] = sym e ∙ is.spelled in
     let first : word ≡ start_word b.start = cc in
     none b.start first
 
 -- words whose fourth spells no number of turns
-pub none_for_turns : (words : List (List ℕ)) (word image schedule t s : List ℕ) → words ≡ word ∷ image ∷ schedule ∷ t ∷ s ∷ [] → ((n : ℕ) → 1 ≤ n → n < 2 ^ 32 → t ≡ decimal n → ⊥) → (b : Boot) → IsBoot words b → ⊥
+pub none_for_turns : (words : List (List ℕ)) (word image schedule t s : List ℕ) → words ≡ word ∷ image ∷ schedule ∷ t ∷ s ∷ [] → ((n : ℕ) → 1 ≤ n → n < 2 ^ 32 → t ≡ decimal n → ⊥) → (b : BootCommand) → IsBoot words b → ⊥
 none_for_turns words word image schedule t s e none b is =
     let spelled : word ∷ image ∷ schedule ∷ t ∷ s ∷ [] ≡ start_word b.start ∷ b.image ∷ b.schedule ∷ decimal b.turns ∷ decimal b.steps ∷ [] = sym e ∙ is.spelled in
     let k : t ≡ decimal b.turns = cc in
     none b.turns is.some_turns is.turns_fit k
 
 -- words whose fifth spells no number of steps
-pub none_for_steps : (words : List (List ℕ)) (word image schedule t s : List ℕ) → words ≡ word ∷ image ∷ schedule ∷ t ∷ s ∷ [] → ((n : ℕ) → n < 2 ^ 64 → s ≡ decimal n → ⊥) → (b : Boot) → IsBoot words b → ⊥
+pub none_for_steps : (words : List (List ℕ)) (word image schedule t s : List ℕ) → words ≡ word ∷ image ∷ schedule ∷ t ∷ s ∷ [] → ((n : ℕ) → n < 2 ^ 64 → s ≡ decimal n → ⊥) → (b : BootCommand) → IsBoot words b → ⊥
 none_for_steps words word image schedule t s e none b is =
     let spelled : word ∷ image ∷ schedule ∷ t ∷ s ∷ [] ≡ start_word b.start ∷ b.image ∷ b.schedule ∷ decimal b.turns ∷ decimal b.steps ∷ [] = sym e ∙ is.spelled in
     let k : s ≡ decimal b.steps = cc in
@@ -107,7 +107,7 @@ words_of_one_trace words word image schedule t s u turns steps user e a fit c le
     let small : user < 2 ^ 64 = omega (arith, most) in
     let also : x.user < 2 ^ 64 = omega (arith, is.most_users) in
     let n : user ≡ x.user = same_number u user x.user small also d inside.1 in
-    let trace_of : Boot → ℕ → Trace = λ b k. record { boot = b; user = k } in
+    let trace_of : BootCommand → ℕ → Trace = λ b k. record { boot = b; user = k } in
     ap (λ b. trace_of b user) here ∙ ap (λ k. trace_of x.boot k) n
 
 -- words of which one spells no number of its kind are no trace

@@ -8,12 +8,13 @@ use Rattle.cvm_model.specs.Primitives.{user_of}
 use Rattle.cvm_model.specs.Cvm.{System, Faulted, Cvm, IsCvm}
 use Rattle.mips_table.specs.Turns.{lines_of_turn}
 use Rattle.mips_table.specs.Machine.{State}
-use Rattle.boot_turns.specs.TurnEnds.{first_of, Printed, Whole}
-use Rattle.boot_turns.specs.Headline as headline
-use Rattle.boot_turns.specs.Headline.{Ending, TextAt}
+use Rattle.boot_turns.specs.TurnEnds.{first_user_machine, Printed, Whole}
+use Rattle.boot_run.specs.declared.whole.RunEnd.{RunEnd}
+use Rattle.boot_run.specs.declared.whole.RunEnd.TheVariants.{OutOfSteps}
+use Rattle.run_scripts.specs.RanFrom.{TextAt}
 use Rattle.boot_turns.specs.declared.answers.View.{View}
 use Rattle.boot_turns.specs.declared.answers.View.TheVariants as view
-use Rattle.run_scripts.specs.Boot.{booted, around, first_state}
+use Rattle.run_scripts.specs.Boot.{booted, environment_of, start_state}
 use Rattle.boot_report.specs.Texts.{fault_row}
 use Rattle.run_scripts.specs.Suffices.{EndsWith, StackOutIsNotPrinted}
 use Rattle.cvm_shell.proofs.StackTexts.{IsClean, rows_clean, boot_clean, journal_clean, trace_clean, clean_end}
@@ -31,22 +32,21 @@ one_text told before text rest e h =
 module _ (x : Environment) (y : System) (s : State) (never : (k : ℕ) (c : Cvm) → IsCvm y (lines_of_turn x s) k c → c.status ≢ Faulted StackOut) where
   printed_clean : (v : View) (t : ℕ) (text : List ℕ) → Printed x y s v t text → IsClean text
   printed_clean view.Boot t text (c, is, e) = subst IsClean (sym e) (rows_clean y _ _ c is (never _ c is))
-  printed_clean (view.Trace u) t text (j, shown, e) = subst IsClean (sym e) (journal_clean u (first_of y u) j)
+  printed_clean (view.Trace u) t text (j, shown, e) = subst IsClean (sym e) (journal_clean u (first_user_machine y u) j)
 
   whole_clean : (v : View) (t : ℕ) (text : List ℕ) → Whole x y s v t text → IsClean text
   whole_clean view.Boot t text (c, is, e) = subst IsClean (sym e) (boot_clean y _ _ c is (never _ c is))
-  whole_clean (view.Trace u) t text (c, j, is, shown, e) = subst IsClean (sym e) (trace_clean u (first_of y u) j (user_of c.core.users u) c.status (never _ c is))
+  whole_clean (view.Trace u) t text (c, j, is, shown, e) = subst IsClean (sym e) (trace_clean u (first_user_machine y u) j (user_of c.core.users u) c.status (never _ c is))
 
-  text_clean : (v : View) (t : ℕ) (e : Ending) (text : List ℕ) → TextAt x y s v t e text → IsClean text
-  text_clean v t headline.Done text h = whole_clean v t text h
-  text_clean v t headline.KernelFaulted text h = whole_clean v t text h
-  text_clean v t headline.OutOfSteps text h = printed_clean v t text h
+  text_clean : (v : View) (t : ℕ) (e : RunEnd) (text : List ℕ) → TextAt x y s v t e text → IsClean text
+  text_clean v t OutOfSteps text h = printed_clean v t text h
+  text_clean v t other text h = whole_clean v t text h
 
 pub not_met : StackOutIsNotPrinted
 not_met words status ended old new before after source stack session s rows sectors enough says has h =
-    let x = around rows before in
+    let x = environment_of rows before in
     let y = booted s rows in
-    let first = first_state session s rows sectors in
+    let first = start_state session s rows sectors in
     let clean : IsClean h.text = text_clean x y first (λ k c is. enough source stack s says has rows (lines_of_turn x first) k c is) session.view _ h.ending h.text h.ran.text_is in
     let same : (ends : EndsWith (fault_row StackOut) before after) → h.text ≡ ends.front ++ codes "fault StackOut\n" =
     λ ends. one_text before.sink.text ends.before h.text (ends.front ++ codes "fault StackOut\n") ends.before_told (sym h.printed ∙ ends.printed) in

@@ -6,7 +6,7 @@ use Rattle.std.specs.Fmt.{signed_decimal, digits, digits_onto, digit_glyph}
 use Rattle.cvm_text.specs.Hex.{hex_digit, hex8}
 use Rattle.mips_table.specs.Flat.{Flat}
 use Rattle.c0_meaning.specs.Value.{Value, Values, int, bool, null, at, group, empty, part}
-use Rattle.cvm_model.specs.Kernel.{Core, parts_of, JournalEntry, Stepped, Trapped, Set, Size, Put, DispatchEnd, Answers, Faults, NotYet, DispatchOutcome}
+use Rattle.cvm_model.specs.Kernel.{Core, parts_of_value, JournalEntry, Stepped, Trapped, Set, Size, Put, DispatchEnd, Answers, Faults, NotYet, DispatchOutcome}
 use Rattle.cvm_model.specs.Primitives.{pages_of}
 use Rattle.cvm_model.specs.declared.kernel_fault.KernelFault.{KernelFault}
 use Rattle.cvm_model.specs.declared.kernel_fault.KernelFault.TheVariants.{NullUse, Bounds, DivZero, StackOut, BadUser}
@@ -173,9 +173,9 @@ users u (x ∷ rest) = keeps_both (text.user_text u x) (text.users_text (u + 1) 
 
 report : (names : List (List ℕ)) (c : Core) → Keeps (text.report_text names c)
 report names c =
-    let globals_rows = text.globals_text names (parts_of c.c0.global_values) in
+    let globals_rows = text.globals_text names (parts_of_value c.c0.global_values) in
     keeps_both (globals_rows ++ text.log_text c.console.log) (text.users_text 1 c.users)
-    (keeps_both globals_rows (text.log_text c.console.log) (globals names (parts_of c.c0.global_values)) (console c.console.log)) (users 1 c.users)
+    (keeps_both globals_rows (text.log_text c.console.log) (globals names (parts_of_value c.c0.global_values)) (console c.console.log)) (users 1 c.users)
 
 -- the end of a run that didn't fault
 stopped : Keeps (codes "stopped\n")

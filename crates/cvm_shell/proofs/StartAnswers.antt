@@ -1,6 +1,6 @@
 -- What a call answers that loads a system for its session's start and runs it, from what the two calls of boot_run say. These count users, pages and
 -- words of what is booted; the claims count those of its system.
-use Rattle.std.proofs.Common.{◌≡◌, ℕ, ◌*◌, ◌+◌, ◌/◌, List, sym, ap, length, subst, Some, None, Ok, Err}
+use Rattle.std.proofs.Common.{◌≡◌, ℕ, ◌*◌, ◌+◌, ◌/◌, List, sym, ap, length, subst, Some, None}
 use Rattle.std.specs.Prelude.{All, Option, IfSome, Result, IfOk, IfErr}
 use Rattle.std.proofs.lemmas.List.{length-map}
 use Rattle.schedule_file.specs.Rows.{Rows}
@@ -9,7 +9,7 @@ use Rattle.boot_turns.specs.declared.answers.View.{View}
 use Rattle.boot_run.specs.LoadEnds.{pages_needed, rom_needed, HasDiskRoom, LoadFails}
 use Rattle.boot_run.specs.declared.load.LoadFault.{LoadFault}
 use Rattle.boot_run.specs.declared.whole.RunEnd.{RunEnd}
-use Rattle.kernel_linker.specs.Accept.{system_of}
+use Rattle.kernel_linker.specs.Accept.{image_system}
 use Rattle.layer_map.specs.Map.{memory_frames}
 use Rattle.cvm_model.specs.Cvm.{map_of}
 use Rattle.layer_contract.specs.Boots.{boot_of}
@@ -19,7 +19,6 @@ use Rattle.boot_run.specs.SavedFiles.{wanted_of}
 use Rattle.boot_run.specs.SavedRuns.{IsDisk}
 use Rattle.boot_run.proofs.Premises.{are_pages}
 use Rattle.cvm_outside.specs.Told.{IsSector}
-use Rattle.machine_save.specs.SaveRun.{KeepsOrPuts}
 use Rattle.run_scripts.specs.Plan.{wanted_by}
 use Rattle.cvm_shell.specs.declared.boot.Ready.{Ready}
 use Rattle.run_scripts.specs.declared.session.Session.{Session}
@@ -30,14 +29,14 @@ use Rattle.run_scripts.specs.Boot.{booted, held_of}
 use Rattle.cvm_shell.specs.Stages.{CallAnswers}
 
 -- the users are counted alike
-pub same_count : (b : Booted) → length b.users.items ≡ length (system_of b).users
+pub same_count : (b : Booted) → length b.users.items ≡ length (image_system b).users
 same_count b = sym (length-map b.users.items (λ u. u.items))
 
 -- and so are their pages
-pub same_need : (b : Booted) (rows : Rows) → pages_needed b ≡ held_of Loaded (booted (system_of b) rows)
+pub same_need : (b : Booted) (rows : Rows) → pages_needed b ≡ held_of Loaded (booted (image_system b) rows)
 same_need b rows = ap (λ (n : ℕ). n * b.params.pages) (same_count b)
 
-pub same_rom_need : (b : Booted) (rows : Rows) → rom_needed b ≡ held_of Rom (booted (system_of b) rows)
+pub same_rom_need : (b : Booted) (rows : Rows) → rom_needed b ≡ held_of Rom (booted (image_system b) rows)
 same_rom_need b rows = ap (λ (n : ℕ). n + (length b.words.items + 1023) / 1024) (same_need b rows)
 
 -- a run of this session but for its start
@@ -45,7 +44,7 @@ abbrev pub from : StartPoint → Session → Session
 from start session = record { start = start; view = session.view; turns = session.turns; steps = session.steps }
 
 -- the users are counted alike
-pub same_sight : (booted : Booted) (v : View) → SeesUser v (length booted.users.items) → SeesUser v (length (system_of booted).users)
+pub same_sight : (booted : Booted) (v : View) → SeesUser v (length booted.users.items) → SeesUser v (length (image_system booted).users)
 same_sight booted v = subst (SeesUser v) (same_count booted)
 
 -- what a saved machine has to fit is the same of what is booted and of its system
@@ -53,16 +52,11 @@ abbrev with_users : Booted → Rows → (turns users : ℕ) → Wanted
 with_users b rows turns n =
     record { frames = memory_frames (map_of (boot_of b)); users = n; pages = b.params.pages; inputs = rows.inputs; linked = b.words.items; turns = turns }
 
-pub same_wanted : (b : Booted) (rows : Rows) (turns : ℕ) → wanted_of b rows turns ≡ wanted_by (system_of b) rows turns
+pub same_wanted : (b : Booted) (rows : Rows) (turns : ℕ) → wanted_of b rows turns ≡ wanted_by (image_system b) rows turns
 same_wanted b rows turns = ap (with_users b rows turns) (same_count b)
 
--- what a save leaves where it is refused
-pub unput_err : (answer : Result RunEnd LoadFault) (Keeps Puts : Type 0) → KeepsOrPuts answer Keeps Puts → IfErr answer (λ e. Keeps)
-unput_err (Ok end) K P h = tt
-unput_err (Err e) K P h = h
-
 -- what a call says of a run that needs so many sectors, at its session's start
-module _ {need : ℕ} (r : Ready) (session : Session) (start : StartPoint) (same : need ≡ held_of start (booted (system_of r.boot) r.schedule)) (is : session.start ≡ start) where
+module _ {need : ℕ} (r : Ready) (session : Session) (start : StartPoint) (same : need ≡ held_of start (booted (image_system r.boot) r.schedule)) (is : session.start ≡ start) where
   pub answers_from : (answer : Result RunEnd LoadFault) (old new : Outside) → IfErr answer (LoadFails r.boot session.view need old.disk.size old.disk.faults new.disk.faults)
       → IfOk answer (λ e. HasDiskRoom r.boot session.view need old.disk.size) → CallAnswers r session answer old new
   answers_from answer old new refused loaded =

@@ -1,13 +1,13 @@
 -- What is done of the plan of a run, by the calls of the call that loads its system and runs it.
-use Rattle.std.proofs.Common.{◌≡◌, ◌≢◌, ◌⊎◌, inl, inr, ℕ, ◌<◌, ◌≤◌, ◌++◌, Bool, true, false, List, length, refl, sym, ap, ◌∙◌, ap₂, subst, Some, None, Ok, Err}
+use Rattle.std.proofs.Common.{◌≡◌, ◌≢◌, ◌⊎◌, inl, inr, ℕ, ◌<◌, ◌≤◌, ◌++◌, true, List, length, refl, sym, ap, ◌∙◌, ap₂, subst, Some, None, Ok, Err}
 use Rattle.std.specs.Prelude.{Option, Result, IfErr, OnErr}
 use Rattle.cvm_outside.specs.Outside.{Outside, Files, Drive, output, drive}
 use Rattle.cvm_outside.specs.Script.{Call, Who}
 use Rattle.cvm_outside.specs.declared.sink.Sink as sink_of
 use Rattle.cvm_outside.specs.declared.sectors.Sectors as sectors_of
 use Rattle.schedule_file.specs.Rows.{Rows}
-use Rattle.cvm_model.specs.Cvm.{System, Status as CvmStatus, Running, Halted, Faulted}
-use Rattle.boot_turns.specs.Runs.{Run, steps_made, has_ended, cvm_at}
+use Rattle.cvm_model.specs.Cvm.{System}
+use Rattle.boot_turns.specs.Runs.{Run}
 use Rattle.boot_turns.specs.declared.answers.View.TheVariants as view
 use Rattle.boot_run.specs.declared.load.LoadFault.{LoadFault}
 use Rattle.boot_run.specs.declared.load.LoadFault.TheVariants as load
@@ -17,10 +17,10 @@ use Rattle.boot_run.specs.Closing.{says}
 use Rattle.boot_run.specs.LoadEnds.{HasDiskRoom, LoadFails}
 use Rattle.boot_run.specs.LoadScript.{load_script}
 use Rattle.boot_run.specs.Pasts.{HavePasts}
-use Rattle.boot_run.specs.RunCalls.{WholeScript, loads, of_end, of_answer, IsDue, due_end, end_by}
+use Rattle.boot_run.specs.RunCalls.{WholeScript, loads, of_end, of_answer, EndIsDue, due_end}
 use Rattle.boot_run.specs.RunEnds.{SeesUser}
 use Rattle.boot_run.specs.RunScript.{run_script}
-use Rattle.kernel_linker.specs.Accept.{ImageSystem, system_of}
+use Rattle.kernel_linker.specs.Accept.{ImageSystem, image_system}
 use Rattle.run_scripts.specs.declared.exit_status.Status.{Status}
 use Rattle.run_scripts.specs.declared.exit_status.Status.TheVariants.{Done, Refused, KernelFault, StepLimit, Disk}
 use Rattle.cvm_shell.specs.declared.boot.Ready.{Ready}
@@ -30,18 +30,18 @@ use Rattle.run_scripts.specs.Boot.{booted, held_of, sectors_needed, start_of}
 use Rattle.run_scripts.specs.Refusal.{small_disk, no_such_user, refusal_text}
 use Rattle.run_scripts.specs.Plan.{Plan, boots, saves}
 use Rattle.run_scripts.specs.SessionRuns.{pages_loaded, run_of}
-use Rattle.run_scripts.specs.RunStatus.{status_of, run_status}
-use Rattle.run_scripts.specs.Ends.{PlanAsks, Joins, no_user, small, over_told, over_untold, load_of, answered}
+use Rattle.run_scripts.specs.RunStatus.{run_status, status_of_end}
+use Rattle.run_scripts.specs.Ends.{PlanAsks, Joins, no_user, small, over_told, over_untold, session_load, answered}
 use Rattle.cvm_shell.specs.Does.{Acts, SaysFault, SaysEnd, DoesPlan, DoesOrWants, SessionCalls, SessionPasts}
-use Rattle.cvm_shell.specs.Stages.{needs, status_of_end, CallAnswers}
+use Rattle.cvm_shell.specs.Stages.{session_needs, CallAnswers}
 use Rattle.cvm_shell.proofs.GotCalls.{beside}
-use Rattle.cvm_shell.proofs.Doing.{acted}
+use Rattle.cvm_shell.proofs.StageEnds.{acted}
 use Rattle.cvm_shell.proofs.StartAnswers.{from, same_sight, same_count}
 
 -- FOR ITS SESSION'S START: the calls, and the abstract run
-module _ {need : ℕ} (r : Ready) (session : Session) (start : StartPoint) (same : need ≡ held_of start (booted (system_of r.boot) r.schedule)) (is : session.start ≡ start) where
+module _ {need : ℕ} (r : Ready) (session : Session) (start : StartPoint) (same : need ≡ held_of start (booted (image_system r.boot) r.schedule)) (is : session.start ≡ start) where
   abbrev y : System
-  y = booted (system_of r.boot) r.schedule
+  y = booted (image_system r.boot) r.schedule
 
   pub calls_from : {O D : Type 0} (text : sink_of.Ghosts O) (told : sectors_of.Ghosts D) (answer : Result RunEnd LoadFault) (old new : O × D)
       → WholeScript text told y r.schedule (start_of start y) session.view session.turns session.steps (load_script (pages_loaded start y) need) old new answer → SessionCalls text told r session answer old new
@@ -64,20 +64,12 @@ by_end ends.DiskFault due status is same = refl
 by_end ends.SinkFault due status is same = refl
 by_end ends.ShelfFault due status is same = refl
 
-pub same_status : (ended : Bool) (st : CvmStatus) → status_of_end (end_by ended st) ≡ status_of ended st
-same_status false Running = refl
-same_status false Halted = refl
-same_status false (Faulted f) = refl
-same_status true Running = refl
-same_status true Halted = refl
-same_status true (Faulted f) = refl
-
 -- and so is that of an answer, of a run that was begun
 abbrev pub status_by : Result RunEnd LoadFault → Status
 status_by (Ok end) = status_of_end end
 status_by (Err fault) = Disk
 
-pub told_status : (answer : Result RunEnd LoadFault) (due : RunEnd) (status : Status) → loads answer ≡ true → (of_answer answer ≡ None → IsDue answer due) → status_of_end due ≡ status
+pub told_status : (answer : Result RunEnd LoadFault) (due : RunEnd) (status : Status) → loads answer ≡ true → (of_answer answer ≡ None → EndIsDue answer due) → status_of_end due ≡ status
     → status_by answer ≡ answered status (of_answer answer)
 told_status (Ok end) due status begun is same = by_end end due status is same
 told_status (Err load.Disk) due status begun is same = refl
@@ -107,7 +99,7 @@ some_status (Err (load.NoSuchUser user users)) begun = absurd (cc)
 -- A RUN WAS BEGUN
 module _ {O D : Type 0} (text : sink_of.Ghosts O) (told : sectors_of.Ghosts D) (r : Ready) (session : Session) (out reout : O) (disk redisk : D) (shelf : Files) where
   abbrev s : ImageSystem
-  s = system_of r.boot
+  s = image_system r.boot
 
   abbrev before : Outside
   before = record { shelf = shelf; sink = output text out; disk = drive told disk }
@@ -125,19 +117,19 @@ module _ {O D : Type 0} (text : sink_of.Ghosts O) (told : sectors_of.Ghosts D) (
           let past = pasts sectors e sees room in
           let made = calls.exact begun sectors past.0 e past.1 in
           record {
-            script = run_script run (load_of session s r.schedule) past.0;
+            script = run_script run (session_load session s r.schedule) past.0;
             due = run_status run past.0;
             asks = over_told sectors _ _ sees room e (record { past = past.0; is_past = past.1; script_is = refl; status_is = refl });
             blamed = of_answer answer;
             performs = made.0 shelf;
             joins = tt;
-            status_is = told_status answer (due_end run past.0) (run_status run past.0) begun made.1 (same_status (has_ended run) (cvm_at run past.0 (steps_made run)).status);
+            status_is = told_status answer (due_end run past.0) (run_status run past.0) begun made.1 refl;
           }
       by None e =
           let made = calls.some begun in
           let st = some_status answer begun in
           record {
-            script = load_of session s r.schedule ++ made.0;
+            script = session_load session s r.schedule ++ made.0;
             due = st.due;
             asks = over_untold _ _ sees room e (made.0, made.1, refl, st.one);
             blamed = of_answer answer;
@@ -200,7 +192,7 @@ unmoved (Err e) see o o1 d d1 h k = ap₂ see h k
 -- WHAT WAS SAID of a run, beside these files and this disk
 module _ {O : Type 0} (text : sink_of.Ghosts O) (r : Ready) (session : Session) (put : Option (List ℕ)) (shelf : Files) (disk : Drive) (o o' : O) (old : Outside) (status : Status) where
   abbrev p : Plan
-  p = run_plan session (system_of r.boot) r.schedule put
+  p = run_plan session (image_system r.boot) r.schedule put
 
   abbrev at : O → Outside
   at x = beside (output text x) disk shelf
@@ -213,18 +205,18 @@ module _ {O : Type 0} (text : sink_of.Ghosts O) (r : Ready) (session : Session) 
   from_old : (script : List Call) (due : Status) → at o ≡ old → Acts script due (at o) (at o') status → Acts script due old (at o') status
   from_old script due e acts = subst (λ (x : Outside). Acts script due x (at o') status) e acts
 
-  pub fault_said : (f : LoadFault) (count now : ℕ) → LoadFails r.boot session.view (needs r session) old.disk.size count now f
-      → (f ≡ load.Disk → HasDiskRoom r.boot session.view (needs r session) old.disk.size → DoesPlan p old (at o) Disk) → (f ≢ load.Disk → at o ≡ old) → SaysFault text f o o' status → DoesOrWants p old (at o') status
+  pub fault_said : (f : LoadFault) (count now : ℕ) → LoadFails r.boot session.view (session_needs r session) old.disk.size count now f
+      → (f ≡ load.Disk → HasDiskRoom r.boot session.view (session_needs r session) old.disk.size → DoesPlan p old (at o) Disk) → (f ≢ load.Disk → at o ≡ old) → SaysFault text f o o' status → DoesOrWants p old (at o') status
   fault_said load.Disk count now fails begun still said = inl (as_begun Disk (begun refl fails.0) said)
   fault_said load.Memory count now fails begun still (same, is) = inr (is, ap at same ∙ still (λ e. cc))
   fault_said (load.SmallDisk need have) count now fails begun still said =
-      inl (small_does session (system_of r.boot) r.schedule put old (at o') status need have (same_sight r.boot session.view fails.0) fails.1 fails.2 fails.3
+      inl (small_does session (image_system r.boot) r.schedule put old (at o') status need have (same_sight r.boot session.view fails.0) fails.1 fails.2 fails.3
       (from_old (says (refusal_text (small_disk need have))) Disk (still (λ e. cc)) (said shelf disk)))
   fault_said (load.NoSuchUser u users) count now fails begun still said =
-      inl (user_does session (system_of r.boot) r.schedule put old (at o') status u users (fails.1 ∙ same_count r.boot) fails.0 fails.2
+      inl (user_does session (image_system r.boot) r.schedule put old (at o') status u users (fails.1 ∙ same_count r.boot) fails.0 fails.2
       (from_old (says (refusal_text (no_such_user u users))) Refused (still (λ e. cc)) (said shelf disk)))
 
-  pub end_said : (answer : Result RunEnd LoadFault) → CallAnswers r session answer old (at o) → (loads answer ≡ true → HasDiskRoom r.boot session.view (needs r session) old.disk.size → DoesPlan p old (at o) (status_by answer))
+  pub end_said : (answer : Result RunEnd LoadFault) → CallAnswers r session answer old (at o) → (loads answer ≡ true → HasDiskRoom r.boot session.view (session_needs r session) old.disk.size → DoesPlan p old (at o) (status_by answer))
       → (answer ≢ Err load.Disk → OnErr answer (at o ≡ old)) → SaysEnd text answer o o' status → DoesOrWants p old (at o') status
   end_said (Ok end) a begun still said = inl (as_begun (status_of_end end) (begun refl a.loaded) said)
   end_said (Err f) a begun still said =

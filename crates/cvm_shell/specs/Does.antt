@@ -15,7 +15,7 @@ use Rattle.boot_run.specs.Closing.{says}
 use Rattle.boot_run.specs.RunCalls.{WholeScript}
 use Rattle.boot_run.specs.RunEnds.{SeesUser}
 use Rattle.machine_save.specs.SaveCalls.{SavedScript}
-use Rattle.kernel_linker.specs.Accept.{system_of}
+use Rattle.kernel_linker.specs.Accept.{image_system}
 use Rattle.real_layer.specs.Image.{layer_image}
 use Rattle.run_scripts.specs.declared.exit_status.Status.{Status}
 use Rattle.run_scripts.specs.declared.exit_status.Status.TheVariants.{Disk, Shelf, Memory}
@@ -24,17 +24,18 @@ use Rattle.run_scripts.specs.declared.session.Session.{Session}
 use Rattle.cvm_shell.specs.declared.boot.Stop.{Stop}
 use Rattle.cvm_shell.specs.declared.boot.Stop.TheVariants as stop
 use Rattle.cvm_shell.specs.declared.refusal.Refusal.TheVariants as refusal
-use Rattle.cvm_shell.specs.Stages.{status_of_end, puts_made, FilesPlan}
+use Rattle.cvm_shell.specs.Stages.{puts_made, FilesPlan}
 use Rattle.cvm_shell.specs.Views.{IfPlan, stated_row, stated_status}
 use Rattle.run_scripts.specs.Command.{Command, Save, IsCommand, IsSample, save_session}
 use Rattle.run_scripts.specs.Plan.{Plan}
-use Rattle.run_scripts.specs.Boot.{booted, first_state, sectors_needed}
+use Rattle.run_scripts.specs.Boot.{booted, start_state, sectors_needed}
 use Rattle.run_scripts.specs.SessionRuns.{run_of}
-use Rattle.run_scripts.specs.Ends.{Ends, PlanAsks, Joins, IsNotGot, Wants, AreShort, MayBeLong, answered, load_of, seen}
+use Rattle.run_scripts.specs.Ends.{Ends, PlanAsks, Joins, IsNotGot, Wants, AreShort, MayBeLong, answered, session_load, as_outside}
 use Rattle.run_scripts.specs.Served.{files_of, gets}
+use Rattle.run_scripts.specs.RunStatus.{status_of_end}
 
 -- FILES WERE GOT, one after the other, and none is too long
-pub record AreGot (names : List (List ℕ)) (old new : Outside) : Type 0 where
+pub record WereGot (names : List (List ℕ)) (old new : Outside) : Type 0 where
   pub performs : Performs (gets names) old new None
   pub short : AreShort old.shelf.file names
   pub few : new.shelf.taken ≢ TOO_LONG
@@ -53,12 +54,12 @@ pub record IsLong (names : List (List ℕ)) (old new : Outside) : Type 0 where
 -- which gets were made where a stage stops: all, where a fault of what they hold is refused
 abbrev pub StopGets : (names : List (List ℕ)) → (old new : Outside) → Stop → Type 0
 StopGets names old new (stop.Refused refusal.TooLong) = IsLong names old new
-StopGets names old new (stop.Refused other) = AreGot names old new
+StopGets names old new (stop.Refused other) = WereGot names old new
 StopGets names old new stop.Shelf = IsNotGot names old new
 StopGets names old new stop.Memory = Wants names old new
 
 abbrev pub AnswerGets : {T : Type 0} → (names : List (List ℕ)) → (old new : Outside) → Result T Stop → Type 0
-AnswerGets names old new result = MatchResult result (λ _. AreGot names old new) (StopGets names old new)
+AnswerGets names old new result = MatchResult result (λ _. WereGot names old new) (StopGets names old new)
 
 -- THE GETS of a stage, whatever stands beside its shelf
 abbrev pub Gets : {S T : Type 0} → shelf_of.Ghosts S → (names : List (List ℕ)) → (old new : S) → Result T Stop → Type 0
@@ -70,7 +71,7 @@ abbrev pub GetsFile : {S T : Type 0} → shelf_of.Ghosts S → (name : List ℕ)
 GetsFile told name old new result = (rest : List (List ℕ)) (sink : Output) (disk : Drive) →
     let before : Outside = record { shelf = files told old; sink = sink; disk = disk } in
     let after : Outside = record { shelf = files told new; sink = sink; disk = disk } in
-    MatchResult result (λ _. AreGot (name ∷ []) before after) (StopGets (name ∷ rest) before after)
+    MatchResult result (λ _. WereGot (name ∷ []) before after) (StopGets (name ∷ rest) before after)
 
 -- a script was performed, up to a call that failed, and the status is the one that was due, or that of the object that failed
 pub record Acts (script : List Call) (due : Status) (old new : Outside) (status : Status) : Type 0 where
@@ -125,7 +126,7 @@ PutsMade {S} shelf sink name made status (s, o) (s', o') = (words : List (List �
 -- and over a disk
 abbrev pub RunDoes : {S O D : Type 0} → shelf_of.Ghosts S → sink_of.Ghosts O → sectors_of.Ghosts D → Command → Status → (old new : S × O × D) → Type 0
 RunDoes shelf sink disk c status (s, o, d) (s', o', d') = (words : List (List ℕ)) → IsCommand words c →
-    Ends words (seen shelf sink disk s o d) (seen shelf sink disk s' o' d') status
+    Ends words (as_outside shelf sink disk s o d) (as_outside shelf sink disk s' o' d') status
 
 -- a plan is done; or there was no memory, and nothing is called
 abbrev pub DoesOrWants : Plan → (old new : Outside) → Status → Type 0
@@ -138,7 +139,7 @@ SystemDoes sink disk p status (o, d) (o', d') = (shelf : Files) → DoesOrWants 
 
 -- and over a shelf
 abbrev pub SaveDoes : {S O D : Type 0} → shelf_of.Ghosts S → sink_of.Ghosts O → sectors_of.Ghosts D → Plan → Status → (old new : S × O × D) → Type 0
-SaveDoes shelf sink disk p status (s, o, d) (s', o', d') = DoesOrWants p (seen shelf sink disk s o d) (seen shelf sink disk s' o' d') status
+SaveDoes shelf sink disk p status (s, o, d) (s', o', d') = DoesOrWants p (as_outside shelf sink disk s o d) (as_outside shelf sink disk s' o' d') status
 
 -- how a sample ends, whatever the files
 abbrev pub SampleDoes : {O D : Type 0} → sink_of.Ghosts O → sectors_of.Ghosts D → (number : ℕ) → Status → (old new : O × D) → Type 0
@@ -148,18 +149,18 @@ SampleDoes sink disk number status (o, d) (o', d') = (words : List (List ℕ)) (
 -- THE CALLS of a session's run, over a sink and a disk
 abbrev pub SessionCalls : {O D : Type 0} → sink_of.Ghosts O → sectors_of.Ghosts D → Ready → Session → Result RunEnd LoadFault → (old new : O × D) → Type 0
 SessionCalls text told r session answer old new =
-    WholeScript text told (booted (system_of r.boot) r.schedule) r.schedule (first_state session (system_of r.boot) r.schedule)
-    session.view session.turns session.steps (load_of session (system_of r.boot) r.schedule) old new answer
+    WholeScript text told (booted (image_system r.boot) r.schedule) r.schedule (start_state session (image_system r.boot) r.schedule)
+    session.view session.turns session.steps (session_load session (image_system r.boot) r.schedule) old new answer
 
 -- the abstract machine says something of each run of a session over a disk of so many sectors, where they are told
 abbrev pub SessionPasts : Ready → Session → (size : ℕ) → (told : Option (List (List ℕ))) → Type 0
-SessionPasts r session size told = (sectors : List (List ℕ)) → told ≡ Some sectors → SeesUser session.view (length (system_of r.boot).users) →
-    sectors_needed session (system_of r.boot) r.schedule ≤ size →
-    (p : Past) × IsPast (run_of session (system_of r.boot) r.schedule size sectors) p
+SessionPasts r session size told = (sectors : List (List ℕ)) → told ≡ Some sectors → SeesUser session.view (length (image_system r.boot).users) →
+    sectors_needed session (image_system r.boot) r.schedule ≤ size →
+    (p : Past) × IsPast (run_of session (image_system r.boot) r.schedule size sectors) p
 
 -- THE CALLS of a run that is to be saved, over a shelf, a sink and a disk
 abbrev pub SavedCalls : {S O D : Type 0} → shelf_of.Ghosts S → sink_of.Ghosts O → sectors_of.Ghosts D → Ready → Save → Result RunEnd LoadFault →
     (old new : S × O × D) → Type 0
 SavedCalls shelf text told r c answer old new =
-    SavedScript shelf text told (booted (system_of r.boot) r.schedule) r.schedule (first_state (save_session c) (system_of r.boot) r.schedule)
-    c.boot.turns c.boot.steps (load_of (save_session c) (system_of r.boot) r.schedule) c.file old new answer
+    SavedScript shelf text told (booted (image_system r.boot) r.schedule) r.schedule (start_state (save_session c) (image_system r.boot) r.schedule)
+    c.boot.turns c.boot.steps (session_load (save_session c) (image_system r.boot) r.schedule) c.file old new answer

@@ -13,7 +13,7 @@ use Rattle.boot_image.specs.Parts.{ImageParts as Image}
 use Rattle.boot_image.specs.Reading.{answer as image_of, old_answer as old_image_of}
 use Rattle.kernel_linker.specs.Linked.{linked, sizes_of}
 use Rattle.run_scripts.specs.Command.{Link, Migrate}
-use Rattle.run_scripts.specs.Plan.{Accepts, words_from}
+use Rattle.run_scripts.specs.Plan.{Accepts, user_words_from}
 use Rattle.cvm_shell.specs.Stages.{Fetched}
 
 -- ACCEPTED of a source, parameters and users: the bytes are an image, and it is accepted as the system of the checked unit of that source, these
@@ -30,7 +30,7 @@ pub record AreAcceptedAs (layer : Map → List ℕ → List ℕ) (object params 
   pub words : List (List ℕ)
   pub kernel_is : IsObject object (Ok kernel)
   pub limits_are : params_of params ≡ Ok limits
-  pub words_are : words_from 1 users ≡ Ok words
+  pub words_are : user_words_from 1 users ≡ Ok words
   pub accepted : IsAcceptedAs layer kernel.source limits words bytes
 
 -- of the files that a `link` names

@@ -23,12 +23,12 @@ use Rattle.kernel_linker.specs.declared.fault.LinkFault.{LinkFault}
 use Rattle.kernel_linker.specs.declared.fault.LinkFault.TheVariants as linking
 use Rattle.kernel_linker.specs.declared.fault.AcceptFault.{AcceptFault}
 use Rattle.kernel_linker.specs.declared.fault.AcceptFault.TheVariants as accept
-use Rattle.kernel_linker.specs.Accept.{ImageSystem, system_of}
+use Rattle.kernel_linker.specs.Accept.{ImageSystem, image_system}
 use Rattle.cvm_model.specs.Primitives.{user_of}
 use Rattle.cvm_model.specs.Cvm.{Cvm, IsCvm, cvm}
 use Rattle.cvm_model.specs.Journal.{journal, replay}
 use Rattle.layer_contract.specs.Boots.{BootFollows}
-use Rattle.boot_turns.specs.TurnEnds.{first_of}
+use Rattle.boot_turns.specs.TurnEnds.{first_user_machine}
 use Rattle.boot_run.specs.LoadEnds.{HasDiskRoom, LoadFails}
 use Rattle.machine_save.specs.declared.resuming.ResumeFault.{ResumeFault}
 use Rattle.machine_save.specs.declared.resuming.ResumeFault.TheVariants as resuming
@@ -48,12 +48,11 @@ use Rattle.cvm_shell.specs.declared.resuming.Resumable.{Resumable}
 use Rattle.cvm_shell.specs.declared.boot.Stop.{Stop}
 use Rattle.cvm_shell.specs.declared.boot.Stop.TheVariants as stop
 use Rattle.cvm_shell.specs.declared.refusal.Refusal.TheVariants as refusal
-use Rattle.run_scripts.specs.declared.exit_status.Status.{Status}
-use Rattle.run_scripts.specs.declared.exit_status.Status.TheVariants.{Done, KernelFault, StepLimit, Disk, Shelf, Sink}
+use Rattle.run_scripts.specs.declared.exit_status.Status.TheVariants.{Shelf}
 use Rattle.std.specs.Global.{Vec}
 use Rattle.run_scripts.specs.declared.session.Session.{Session}
-use Rattle.run_scripts.specs.Command.{Boot, Save, Command, boot, save_session}
-use Rattle.run_scripts.specs.Plan.{Plan, puts, boots, saves, most_bytes, wanted_by, taken_plan, BootPlan, CommandPlan, AreTold, IsPlan, words_from, prints}
+use Rattle.run_scripts.specs.Command.{BootCommand, Save, Command, boot, save_session}
+use Rattle.run_scripts.specs.Plan.{Plan, puts, boots, saves, most_bytes, wanted_by, taken_plan, BootPlan, CommandPlan, FilesAreTold, IsPlan, user_words_from, prints}
 use Rattle.cvm_shell.specs.Views.{IfPlan}
 use Rattle.run_scripts.specs.Boot.{booted, sectors_needed}
 use Rattle.run_scripts.specs.Ends.{IsByte}
@@ -135,12 +134,13 @@ OnlyLong stop.Shelf = ⊤
 OnlyLong stop.Memory = ⊤
 
 -- the words of users by their files, or the first fault
-abbrev pub AreWordsOf : List (List ℕ) → Result (Vec (Vec ℕ)) FileFault → Type 0
-AreWordsOf files result = MatchResult result (λ v. words_from 1 files ≡ Ok (map (λ w. w.items) v.items)) (λ f. f ≢ system.Memory → words_from 1 files ≡ Err f)
+abbrev pub AreUserWords : List (List ℕ) → Result (Vec (Vec ℕ)) FileFault → Type 0
+AreUserWords files result = MatchResult result (λ v. user_words_from 1 files ≡ Ok (map (λ w. w.items) v.items))
+    (λ f. f ≢ system.Memory → user_words_from 1 files ≡ Err f)
 
 -- the sectors that a run of a session needs
-abbrev pub needs : Ready → Session → ℕ
-needs r session = sectors_needed session (system_of r.boot) r.schedule
+abbrev pub session_needs : Ready → Session → ℕ
+session_needs r session = sectors_needed session (image_system r.boot) r.schedule
 
 -- a sink and a disk beside files
 abbrev pub within : {O D : Type 0} → sink_of.Ghosts O → sectors_of.Ghosts D → Files → O × D → Outside
@@ -148,8 +148,8 @@ within sink disk shelf (o, d) = record { shelf = shelf; sink = output sink o; di
 
 -- WHAT A CALL ANSWERS that loads a system and runs it, of what is seen before and after it: why it loaded nothing, or that there was room
 pub record CallAnswers (r : Ready) (session : Session) (answer : Result RunEnd LoadFault) (old new : Outside) : Type 0 where
-  pub refused : IfErr answer (LoadFails r.boot session.view (needs r session) old.disk.size old.disk.faults new.disk.faults)
-  pub loaded : IfOk answer (λ _. HasDiskRoom r.boot session.view (needs r session) old.disk.size)
+  pub refused : IfErr answer (LoadFails r.boot session.view (session_needs r session) old.disk.size old.disk.faults new.disk.faults)
+  pub loaded : IfOk answer (λ _. HasDiskRoom r.boot session.view (session_needs r session) old.disk.size)
 
 -- whatever the files, which it leaves alone
 abbrev pub AnswersAs : {A : Type 0} → Ready → Session → (Files → A → Outside) → Result RunEnd LoadFault → (old new : A) → Type 0
@@ -161,31 +161,21 @@ SystemFollows r = BootFollows r.layer.words r.layer.sizes r.layer.map r.boot
 
 -- the plans of the commands, by what their stages found
 abbrev pub ready_for : Session → Ready → Plan
-ready_for session r = boots session (system_of r.boot) r.schedule
+ready_for session r = boots session (image_system r.boot) r.schedule
 
 abbrev pub saveable_for : Save → Saveable → Plan
-saveable_for c r = saves (save_session c) (system_of r.ready.boot) r.ready.schedule c.file
+saveable_for c r = saves (save_session c) (image_system r.ready.boot) r.ready.schedule c.file
 
 abbrev pub resumable_for : Save → Resumable → Plan
 resumable_for c r =
-    taken_plan (save_session c) (system_of r.ready.boot) r.ready.schedule
-    (machine_of (wanted_by (system_of r.ready.boot) r.ready.schedule c.boot.turns) r.bytes.items)
+    taken_plan (save_session c) (image_system r.ready.boot) r.ready.schedule
+    (machine_of (wanted_by (image_system r.ready.boot) r.ready.schedule c.boot.turns) r.bytes.items)
 
 -- why there is no room for a saved machine of a system: its file may be too long, or there was no memory
-abbrev pub HasNoRoom : ImageSystem → Stop → Type 0
-HasNoRoom s (stop.Refused r) = (r ≡ refusal.BadSave (saving.SaveTooLarge (most_bytes s))) × (FILE_ROOM < most_bytes s)
-HasNoRoom s stop.Shelf = ⊥
-HasNoRoom s stop.Memory = ⊤
-
--- the status of a run by its end
-abbrev pub status_of_end : RunEnd → Status
-status_of_end run_end.Done = Done
-status_of_end run_end.Stopped = Done
-status_of_end run_end.KernelFaulted = KernelFault
-status_of_end run_end.OutOfSteps = StepLimit
-status_of_end run_end.DiskFault = Disk
-status_of_end run_end.SinkFault = Sink
-status_of_end run_end.ShelfFault = Shelf
+abbrev pub HasNoSaveRoom : ImageSystem → Stop → Type 0
+HasNoSaveRoom s (stop.Refused r) = (r ≡ refusal.BadSave (saving.SaveTooLarge (most_bytes s))) × (FILE_ROOM < most_bytes s)
+HasNoSaveRoom s stop.Shelf = ⊥
+HasNoSaveRoom s stop.Memory = ⊤
 
 -- what was made is put
 abbrev pub puts_made : (name : List ℕ) → Vec ℕ → Plan
@@ -200,14 +190,14 @@ told_text text = prints text.items
 
 -- the files of a command come to a plan, and to no other, where they are told
 abbrev pub FilesPlan : (layer : Map → List ℕ → List ℕ) → (List ℕ → Option (List ℕ)) → Command → Plan → Type 0
-FilesPlan layer file c p = IsPlan (AreTold file (files_of c)) (CommandPlan layer file c) p
+FilesPlan layer file c p = IsPlan (FilesAreTold file (files_of c)) (CommandPlan layer file c) p
 
 -- so do those of a boot, by whatever session
-abbrev pub IsBootPlan : (layer : Map → List ℕ → List ℕ) → (List ℕ → Option (List ℕ)) → Boot → Session → Plan → Type 0
-IsBootPlan layer file b session p = IsPlan (AreTold file (files_of (boot b))) (BootPlan layer file b session) p
+abbrev pub IsBootPlan : (layer : Map → List ℕ → List ℕ) → (List ℕ → Option (List ℕ)) → BootCommand → Session → Plan → Type 0
+IsBootPlan layer file b session p = IsPlan (FilesAreTold file (files_of (boot b))) (BootPlan layer file b session) p
 
 -- a law of every system: with whatever units its run comes to a state, that state is one; and the replay of a user's journal is its machine there
 abbrev pub JournalsReplay : Type 0
 JournalsReplay = (s : ImageSystem) (rows : Rows) (lines : ℕ → ℕ) (n k u : ℕ) (c d : Cvm) → 1 ≤ u → u ≤ length s.users →
     cvm (booted s rows) lines n k ≡ Some c → IsCvm (booted s rows) lines k d
-    → (c ≡ d) × (replay (first_of (booted s rows) u) (journal (booted s rows) lines n u k) ≡ Some (user_of c.core.users u))
+    → (c ≡ d) × (replay (first_user_machine (booted s rows) u) (journal (booted s rows) lines n u k) ≡ Some (user_of c.core.users u))

@@ -32,7 +32,7 @@ abbrev pub IsStackNumber : (text : List ℕ) → Option ℕ → Type 0
 IsStackNumber text found = MatchOption found ((n : ℕ) → 64 ≤ n → n ≤ 262144 → text ≡ decimal n → ⊥) (λ n. (text ≡ decimal n) × (64 ≤ n) × (n ≤ 262144))
 
 -- a boot, with its names as lists of bytes
-abbrev pub boot_view : Boot → command.Boot
+abbrev pub boot_view : Boot → command.BootCommand
 boot_view b = record { start = b.start; image = b.image.now; schedule = b.schedule.now; turns = b.turns; steps = b.steps }
 
 -- a trace, with its names as lists of bytes
@@ -57,7 +57,7 @@ program_view c = record { source = c.source.now; image = c.image.now }
 
 -- a linking, with its names as lists of bytes
 abbrev pub link_view : Link → command.Link
-link_view l = record { object = l.object.now; params = l.params.now; image = l.image.now; users = command.texts l.users.now }
+link_view l = record { object = l.object.now; params = l.params.now; image = l.image.now; users = command.word_texts l.users.now }
 
 -- a migration, with its names as lists of bytes
 abbrev pub migrate_view : Migrate → command.Migrate

@@ -2,7 +2,7 @@
 
 ghost use Rattle.std.specs.Prelude.{IfOk};
 ghost use Rattle.boot_image.specs.Reading.{answer};
-ghost use Rattle.kernel_linker.specs.Accept.{AcceptAnswers, system_of};
+ghost use Rattle.kernel_linker.specs.Accept.{AcceptAnswers, image_system};
 ghost use Rattle.layer_contract.specs.Boots.{BootFollows};
 
 use boot_image::images_are_their_spellings;
@@ -18,7 +18,7 @@ use unit_runs::follows::linked_boots_follow;
 ///
 /// Those of `kernel_linker::accept`.
 pub fn accept_image<M: LayerMaker>(alloc: Global, bytes: &[u8]) -> Result<Accepted<M>, AcceptFault>
-    ensures is { AcceptAnswers M.made (λ a. system_of a.boot) (answer bytes.now) result }
+    ensures is { AcceptAnswers M.made (λ a. image_system a.boot) (answer bytes.now) result }
     ensures follows { IfOk result (λ a. BootFollows (M.image a.layer) (M.sizes a.layer) (M.map a.layer) a.boot) }
 {
     linked_boots_follow();

@@ -1,10 +1,10 @@
 // The image of a user: its text, assembled.
 ghost use Rattle.std.specs.Prelude.{◌≡◌, ◌≢◌, ◌*◌, ℕ, List, length, IfOk, IfErr, IsErrOf};
 ghost use Rattle.real_layer.specs.Image.{layer_image};
-ghost use Rattle.run_scripts.specs.Command as Command;
+ghost use Rattle.run_scripts.specs.Command;
 ghost use Rattle.cvm_shell.specs.Does.{Gets};
 ghost use Rattle.run_scripts.specs.Served.{files_of};
-ghost use Rattle.run_scripts.specs.Plan.{AfterText, bytes_of};
+ghost use Rattle.run_scripts.specs.Plan.{AfterText, user_bytes};
 ghost use Rattle.cvm_shell.specs.Stages.{text_stop, puts_made, PutsAs, FilesPlan};
 ghost use Rattle.cvm_shell.specs.Views.{user_view, IfPlan};
 
@@ -43,7 +43,7 @@ pub fn user_image<S: Shelf>(
 
 /// A law: the image of a user has four bytes a word.
 pub fn words_have_four_bytes()
-    ensures { (words : List ℕ) → length (bytes_of words) ≡ 4 * length words }
+    ensures { (words : List ℕ) → length (user_bytes words) ≡ 4 * length words }
 {}
 
 // The bytes of the image that a text comes to.
@@ -61,7 +61,7 @@ fn assembled_image(alloc: Global, text: &[u8]) -> Result<Vec<u8>, Stop>
 
 // The bytes of these words, each little-endian.
 pub(crate) fn little_endian(alloc: Global, words: &[u32]) -> Result<Vec<u8>, AllocError>
-    ensures { IfOk result (λ v. v.items ≡ bytes_of words.now) }
+    ensures { IfOk result (λ v. v.items ≡ user_bytes words.now) }
 {
     let mut bytes = Vec::new(alloc);
     for word in words {

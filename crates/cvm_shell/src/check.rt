@@ -42,9 +42,9 @@ pub struct Check<'a> {
 
 /// Reads the words of a check, None where they aren't those of one.
 pub fn read_check(words: &Vec<String>) -> Option<Check<'_>>
-    ensures found { IfSome result (λ c. IsCheck (command.texts words.now.items) (check_view c)) }
-    ensures only { (c : checking.Check) → IsCheck (command.texts words.now.items) c → option_map check_view result ≡ Some c }
-    ensures none { IfNone result ((c : checking.Check) → IsCheck (command.texts words.now.items) c → ⊥) }
+    ensures found { IfSome result (λ c. IsCheck (command.word_texts words.now.items) (check_view c)) }
+    ensures only { (c : checking.Check) → IsCheck (command.word_texts words.now.items) c → option_map check_view result ≡ Some c }
+    ensures none { IfNone result ((c : checking.Check) → IsCheck (command.word_texts words.now.items) c → ⊥) }
 {
     let [word, object, stack] = words.as_slice() else {
         return None;

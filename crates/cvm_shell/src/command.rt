@@ -115,9 +115,9 @@ pub enum Command<'a> {
 
 /// Reads the words of a command, None where they have no form of one.
 pub fn read_command(words: &Vec<String>) -> Option<Command<'_>>
-    ensures found { IfSome result (λ c. command.IsCommand (command.texts words.now.items) (command_view c)) }
-    ensures only { (c : command.Command) → command.IsCommand (command.texts words.now.items) c → option_map command_view result ≡ Some c }
-    ensures none { IfNone result (command.IsNoCommand (command.texts words.now.items)) }
+    ensures found { IfSome result (λ c. command.IsCommand (command.word_texts words.now.items) (command_view c)) }
+    ensures only { (c : command.Command) → command.IsCommand (command.word_texts words.now.items) c → option_map command_view result ≡ Some c }
+    ensures none { IfNone result (command.IsNoCommand (command.word_texts words.now.items)) }
 {
     if let Some(boot) = read_boot(words) {
         return Some(Command::Boot(boot));
@@ -155,9 +155,9 @@ pub fn read_command(words: &Vec<String>) -> Option<Command<'_>>
 
 /// Reads the words of a boot or of a boot from a ROM, None where they have no form of one.
 pub fn read_boot(words: &Vec<String>) -> Option<Boot<'_>>
-    ensures found { IfSome result (λ b. command.IsBoot (command.texts words.now.items) (boot_view b)) }
-    ensures only { (b : command.Boot) → command.IsBoot (command.texts words.now.items) b → option_map boot_view result ≡ Some b }
-    ensures none { IfNone result ((b : command.Boot) → command.IsBoot (command.texts words.now.items) b → ⊥) }
+    ensures found { IfSome result (λ b. command.IsBoot (command.word_texts words.now.items) (boot_view b)) }
+    ensures only { (b : command.BootCommand) → command.IsBoot (command.word_texts words.now.items) b → option_map boot_view result ≡ Some b }
+    ensures none { IfNone result ((b : command.BootCommand) → command.IsBoot (command.word_texts words.now.items) b → ⊥) }
 {
     let [word, image, schedule, turns, steps] = words.as_slice() else {
         return None;
@@ -176,9 +176,9 @@ pub fn read_boot(words: &Vec<String>) -> Option<Boot<'_>>
 
 /// Reads the words of a trace, None where they have no form of one.
 pub fn read_trace(words: &Vec<String>) -> Option<Trace<'_>>
-    ensures found { IfSome result (λ t. command.IsTrace (command.texts words.now.items) (trace_view t)) }
-    ensures only { (t : command.Trace) → command.IsTrace (command.texts words.now.items) t → option_map trace_view result ≡ Some t }
-    ensures none { IfNone result ((t : command.Trace) → command.IsTrace (command.texts words.now.items) t → ⊥) }
+    ensures found { IfSome result (λ t. command.IsTrace (command.word_texts words.now.items) (trace_view t)) }
+    ensures only { (t : command.Trace) → command.IsTrace (command.word_texts words.now.items) t → option_map trace_view result ≡ Some t }
+    ensures none { IfNone result ((t : command.Trace) → command.IsTrace (command.word_texts words.now.items) t → ⊥) }
 {
     let [word, image, schedule, turns, steps, user] = words.as_slice() else {
         return None;
@@ -203,9 +203,9 @@ pub fn read_trace(words: &Vec<String>) -> Option<Trace<'_>>
 
 /// Reads the words of a compilation of a user, None where they aren't those of one.
 pub fn read_compile_user(words: &Vec<String>) -> Option<CompileUser<'_>>
-    ensures found { IfSome result (λ c. command.IsCompileUser (command.texts words.now.items) (user_view c)) }
-    ensures only { (c : command.CompileUser) → command.IsCompileUser (command.texts words.now.items) c → option_map user_view result ≡ Some c }
-    ensures none { IfNone result ((c : command.CompileUser) → command.IsCompileUser (command.texts words.now.items) c → ⊥) }
+    ensures found { IfSome result (λ c. command.IsCompileUser (command.word_texts words.now.items) (user_view c)) }
+    ensures only { (c : command.CompileUser) → command.IsCompileUser (command.word_texts words.now.items) c → option_map user_view result ≡ Some c }
+    ensures none { IfNone result ((c : command.CompileUser) → command.IsCompileUser (command.word_texts words.now.items) c → ⊥) }
 {
     let [word, kind, text, image] = words.as_slice() else {
         return None;
@@ -224,9 +224,9 @@ pub fn read_compile_user(words: &Vec<String>) -> Option<CompileUser<'_>>
 
 /// Reads the words of a compilation of a kernel, None where they aren't those of one.
 pub fn read_compile_kernel(words: &Vec<String>) -> Option<CompileKernel<'_>>
-    ensures found { IfSome result (λ c. command.IsCompileKernel (command.texts words.now.items) (kernel_view c)) }
-    ensures only { (c : command.CompileKernel) → command.IsCompileKernel (command.texts words.now.items) c → option_map kernel_view result ≡ Some c }
-    ensures none { IfNone result ((c : command.CompileKernel) → command.IsCompileKernel (command.texts words.now.items) c → ⊥) }
+    ensures found { IfSome result (λ c. command.IsCompileKernel (command.word_texts words.now.items) (kernel_view c)) }
+    ensures only { (c : command.CompileKernel) → command.IsCompileKernel (command.word_texts words.now.items) c → option_map kernel_view result ≡ Some c }
+    ensures none { IfNone result ((c : command.CompileKernel) → command.IsCompileKernel (command.word_texts words.now.items) c → ⊥) }
 {
     let [word, kind, source, object] = words.as_slice() else {
         return None;
@@ -245,9 +245,9 @@ pub fn read_compile_kernel(words: &Vec<String>) -> Option<CompileKernel<'_>>
 
 /// Reads the words of a linking, None where they aren't those of one.
 pub fn read_link(words: &Vec<String>) -> Option<Link<'_>>
-    ensures found { IfSome result (λ l. command.IsLink (command.texts words.now.items) (link_view l)) }
-    ensures only { (l : command.Link) → command.IsLink (command.texts words.now.items) l → option_map link_view result ≡ Some l }
-    ensures none { IfNone result ((l : command.Link) → command.IsLink (command.texts words.now.items) l → ⊥) }
+    ensures found { IfSome result (λ l. command.IsLink (command.word_texts words.now.items) (link_view l)) }
+    ensures only { (l : command.Link) → command.IsLink (command.word_texts words.now.items) l → option_map link_view result ≡ Some l }
+    ensures none { IfNone result ((l : command.Link) → command.IsLink (command.word_texts words.now.items) l → ⊥) }
 {
     let [word, object, params, image, users @ ..] = words.as_slice() else {
         return None;
@@ -265,9 +265,9 @@ pub fn read_link(words: &Vec<String>) -> Option<Link<'_>>
 
 /// Reads the words of a migration, None where they aren't those of one.
 pub fn read_migrate(words: &Vec<String>) -> Option<Migrate<'_>>
-    ensures found { IfSome result (λ m. command.IsMigrate (command.texts words.now.items) (migrate_view m)) }
-    ensures only { (m : command.Migrate) → command.IsMigrate (command.texts words.now.items) m → option_map migrate_view result ≡ Some m }
-    ensures none { IfNone result ((m : command.Migrate) → command.IsMigrate (command.texts words.now.items) m → ⊥) }
+    ensures found { IfSome result (λ m. command.IsMigrate (command.word_texts words.now.items) (migrate_view m)) }
+    ensures only { (m : command.Migrate) → command.IsMigrate (command.word_texts words.now.items) m → option_map migrate_view result ≡ Some m }
+    ensures none { IfNone result ((m : command.Migrate) → command.IsMigrate (command.word_texts words.now.items) m → ⊥) }
 {
     let [word, old, image] = words.as_slice() else {
         return None;
@@ -283,9 +283,9 @@ pub fn read_migrate(words: &Vec<String>) -> Option<Migrate<'_>>
 
 /// Reads the words of a sample, None where they aren't those of one.
 pub fn read_sample(words: &Vec<String>) -> Option<Sample>
-    ensures found { IfSome result (λ x. command.IsSample (command.texts words.now.items) (sample_view x)) }
-    ensures only { (x : command.Sample) → command.IsSample (command.texts words.now.items) x → option_map sample_view result ≡ Some x }
-    ensures none { IfNone result ((x : command.Sample) → command.IsSample (command.texts words.now.items) x → ⊥) }
+    ensures found { IfSome result (λ x. command.IsSample (command.word_texts words.now.items) (sample_view x)) }
+    ensures only { (x : command.Sample) → command.IsSample (command.word_texts words.now.items) x → option_map sample_view result ≡ Some x }
+    ensures none { IfNone result ((x : command.Sample) → command.IsSample (command.word_texts words.now.items) x → ⊥) }
 {
     let [word, number] = words.as_slice() else {
         return None;

@@ -3,10 +3,10 @@
 
 ghost use Rattle.std.specs.Prelude.{◌≤◌};
 ghost use Rattle.run_scripts.specs.Command as command;
-ghost use Rattle.run_scripts.specs.Command.{texts};
+ghost use Rattle.run_scripts.specs.Command.{word_texts};
 ghost use Rattle.cvm_shell.specs.Does.{CommandDoes, RunDoes, SampleDoes};
 ghost use Rattle.run_scripts.specs.CommandEnds.{Headlines, RunCompletes, Isolates, SavesComplete, ResumesComplete};
-ghost use Rattle.run_scripts.specs.Ends.{Ends, seen as told_by};
+ghost use Rattle.run_scripts.specs.Ends.{Ends, as_outside as told_by};
 ghost use Rattle.run_scripts.specs.Promises.{OfCall};
 ghost use Rattle.run_scripts.specs.Resumes.{Resumes};
 ghost use Rattle.run_scripts.specs.Saves.{Saves};
@@ -97,7 +97,7 @@ pub fn run<S: Shelf, O: Sink, D: Sectors>(
     out: &mut O,
     disk: &mut D,
 ) -> Status
-    ensures script { Ends (texts words.now.items) (told_by S.Shelf O.Sink D.Sectors shelf.old out.old disk.old)
+    ensures script { Ends (word_texts words.now.items) (told_by S.Shelf O.Sink D.Sectors shelf.old out.old disk.old)
         (told_by S.Shelf O.Sink D.Sectors shelf.new out.new disk.new) result }
     ensures headline { OfCall Headlines S.Shelf O.Sink D.Sectors words.now.items result shelf.old out.old disk.old shelf.new out.new disk.new }
     ensures complete { OfCall RunCompletes S.Shelf O.Sink D.Sectors words.now.items result shelf.old out.old disk.old shelf.new out.new disk.new }
@@ -127,7 +127,7 @@ fn run_command<S: Shelf, O: Sink, D: Sectors>(
     out: &mut O,
     disk: &mut D,
 ) -> Status
-    ensures { Ends (texts words.now.items) (told_by S.Shelf O.Sink D.Sectors shelf.old out.old disk.old)
+    ensures { Ends (word_texts words.now.items) (told_by S.Shelf O.Sink D.Sectors shelf.old out.old disk.old)
         (told_by S.Shelf O.Sink D.Sectors shelf.new out.new disk.new) result }
 {
     match read_command(words) {

@@ -1,12 +1,12 @@
 // The image of a system: its object, parameters and users, read and linked.
 ghost use Rattle.std.specs.Prelude.{◌≡◌, ◌≢◌, map, IfOk, IfErr, IsErrOf};
 ghost use Rattle.cvm_outside.specs.Told.{TOO_LONG};
-ghost use Rattle.run_scripts.specs.Command.{link as link_command, texts};
+ghost use Rattle.run_scripts.specs.Command.{link as link_command, word_texts};
 ghost use Rattle.cvm_shell.specs.Does.{Gets};
 ghost use Rattle.run_scripts.specs.Served.{files_of};
 ghost use Rattle.cvm_shell.specs.Linked.{IsAcceptedAs, AreAcceptedAs, LinkIsAccepted};
 ghost use Rattle.run_scripts.specs.Plan.{AfterParts, AfterSystem};
-ghost use Rattle.cvm_shell.specs.Stages.{object_stop, file_stop, link_stop, Fetched, OnlyLong, AreWordsOf, puts_made, PutsAs, FilesPlan};
+ghost use Rattle.cvm_shell.specs.Stages.{object_stop, file_stop, link_stop, Fetched, OnlyLong, AreUserWords, puts_made, PutsAs, FilesPlan};
 ghost use Rattle.cvm_shell.specs.Views.{link_view, IfPlan};
 
 use crate::boot::Stop;
@@ -77,9 +77,9 @@ pub fn system_image<M: LayerMaker, S: Shelf>(
 // Gets files, one after the other.
 fn get_all<S: Shelf>(alloc: Global, names: &[String], shelf: &mut S) -> Result<Vec<Vec<u8>>, Stop>
     requires { S.taken shelf.old ≢ TOO_LONG }
-    ensures got { IfOk result (λ v. Fetched (S.file shelf.old) (texts names.now) (map (λ b. b.items) v.items)) }
+    ensures got { IfOk result (λ v. Fetched (S.file shelf.old) (word_texts names.now) (map (λ b. b.items) v.items)) }
     ensures stops { IfErr result OnlyLong }
-    ensures gets { Gets S.Shelf (texts names.now) shelf.old shelf.new result }
+    ensures gets { Gets S.Shelf (word_texts names.now) shelf.old shelf.new result }
 {
     let mut files = Vec::new(alloc);
     for name in names {
@@ -112,7 +112,7 @@ fn linked_image<M: LayerMaker>(
 
 // The words of users by the bytes of their files.
 fn words_of_users(alloc: Global, files: &[Vec<u8>]) -> Result<Vec<Vec<u32>>, FileFault>
-    ensures { AreWordsOf (map (λ b. b.items) files.now) result }
+    ensures { AreUserWords (map (λ b. b.items) files.now) result }
 {
     let mut users = Vec::new(alloc);
     let mut number = 1;

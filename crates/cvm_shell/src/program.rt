@@ -44,9 +44,10 @@ impl From<UserFault> for Stop {
 
 /// Reads the words of a compilation of a user program, None where they aren't those of one.
 pub fn read_compile_program(words: &Vec<String>) -> Option<CompileProgram<'_>>
-    ensures found { IfSome result (λ c. compiling.IsCompileProgram (command.texts words.now.items) (program_view c)) }
-    ensures only { (c : compiling.CompileProgram) → compiling.IsCompileProgram (command.texts words.now.items) c → option_map program_view result ≡ Some c }
-    ensures none { IfNone result ((c : compiling.CompileProgram) → compiling.IsCompileProgram (command.texts words.now.items) c → ⊥) }
+    ensures found { IfSome result (λ c. compiling.IsCompileProgram (command.word_texts words.now.items) (program_view c)) }
+    ensures only { (c : compiling.CompileProgram) → compiling.IsCompileProgram (command.word_texts words.now.items) c
+        → option_map program_view result ≡ Some c }
+    ensures none { IfNone result ((c : compiling.CompileProgram) → compiling.IsCompileProgram (command.word_texts words.now.items) c → ⊥) }
 {
     let [word, kind, source, image] = words.as_slice() else {
         return None;

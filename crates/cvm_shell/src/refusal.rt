@@ -1,7 +1,7 @@
 // The refusals, with the row and the status of each.
 ghost use Rattle.std.specs.Prelude.{◌≡◌, ◌≢◌, ◌≤◌, ◌+◌, ◌++◌, [], ◌∷◌, length, decimal};
 ghost use Rattle.c0_types.specs.declared.source_fault.SourceFault.TheVariants.{Reading, Typing};
-ghost use Rattle.run_scripts.specs.Refusal.{refusal_text, refusal_status, field_text, signed_field_text, start_of, end_of};
+ghost use Rattle.run_scripts.specs.Refusal.{refusal_text, refusal_status, field_text, signed_field_text, span_start, span_end};
 ghost use Rattle.run_scripts.specs.Refusal.{text_fault_row, source_fault_row, object_fault_row, schedule_fault_row};
 ghost use Rattle.run_scripts.specs.Refusal as rows;
 ghost use Rattle.cvm_shell.specs.Views.{refusal_view};
@@ -239,7 +239,7 @@ fn typing_row(fault: TypeFault) -> ArrayString<128>
 // Appends the two ends of a span, if there is one.
 fn put_span(row: &mut ArrayString<128>, span: Option<Span>)
     requires { length row.old.bytes ≤ 58 }
-    ensures bytes { row.new.bytes ≡ row.old.bytes ++ field_text (start_of span) ++ field_text (end_of span) }
+    ensures bytes { row.new.bytes ≡ row.old.bytes ++ field_text (span_start span) ++ field_text (span_end span) }
     ensures few { length row.new.bytes ≤ length row.old.bytes + 42 }
 {
     if let Some(span) = span {

@@ -1,14 +1,14 @@
 // A save: what its files come to, and the run that is saved.
-ghost use Rattle.std.specs.Prelude.{◌≡◌, ◌≢◌, ◌≤◌, IfOk, IfErr, OnErr, Err};
-ghost use Rattle.kernel_linker.specs.Accept.{system_of};
+ghost use Rattle.std.specs.Prelude.{◌≡◌, ◌≤◌, IfOk, IfErr};
+ghost use Rattle.kernel_linker.specs.Accept.{image_system};
 ghost use Rattle.boot_run.specs.SaveRoom.{most_words, FILE_ROOM};
 ghost use Rattle.real_layer.specs.Image.{layer_image};
 ghost use Rattle.run_scripts.specs.Command.{save as of_save, save_session};
 ghost use Rattle.cvm_shell.specs.Does.{Gets, RunDoes, SaveDoes, SavedCalls, SessionPasts};
-ghost use Rattle.run_scripts.specs.Ends.{AreBytes, seen};
+ghost use Rattle.run_scripts.specs.Ends.{AreBytes, as_outside};
 ghost use Rattle.run_scripts.specs.Served.{files_of};
 ghost use Rattle.run_scripts.specs.Plan.{frames_of, most_bytes};
-ghost use Rattle.cvm_shell.specs.Stages.{save_stop, saveable_for, CallAnswers, SystemFollows, HasNoRoom, FilesPlan};
+ghost use Rattle.cvm_shell.specs.Stages.{save_stop, saveable_for, CallAnswers, SystemFollows, HasNoSaveRoom, FilesPlan};
 ghost use Rattle.cvm_shell.specs.Views.{save_view, IfPlan};
 
 use crate::boot::{Ready, Stop, plan};
@@ -20,6 +20,7 @@ use cvm_outside::{Sectors, Shelf, Sink};
 use layer_contract::Layer;
 use machine_save::{Place, Room, SaveFault, save_run};
 use run_scripts::Status;
+use run_scripts::laws::plans_have_shape;
 use std::alloc::Global;
 
 impl From<SaveFault> for Stop {
@@ -46,8 +47,8 @@ pub struct Saveable {
 pub fn plan_save<S: Shelf>(alloc: Global, save: &Save, shelf: &mut S) -> Result<Saveable, Stop>
     ensures comes { IfPlan (saveable_for (save_view save.now)) (FilesPlan layer_image (S.file shelf.old) (of_save (save_view save.now))) result }
     ensures follows { IfOk result (λ r. SystemFollows r.ready) }
-    ensures room { IfOk result (λ r. r.room.words ≡ most_words (frames_of (system_of r.ready.boot))) }
-    ensures short { IfOk result (λ r. most_bytes (system_of r.ready.boot) ≤ FILE_ROOM) }
+    ensures room { IfOk result (λ r. r.room.words ≡ most_words (frames_of (image_system r.ready.boot))) }
+    ensures short { IfOk result (λ r. most_bytes (image_system r.ready.boot) ≤ FILE_ROOM) }
     ensures gets { Gets S.Shelf (files_of (of_save (save_view save.now))) shelf.old shelf.new result }
     ensures bytes { IfOk result (λ _. AreBytes (S.file shelf.old) (files_of (of_save (save_view save.now)))) }
 {
@@ -59,9 +60,9 @@ pub fn plan_save<S: Shelf>(alloc: Global, save: &Save, shelf: &mut S) -> Result<
 // The room for the file of a system's machine.
 fn room_for(alloc: Global, ready: &Ready) -> Result<Room, Stop>
     requires { SystemFollows ready.now }
-    ensures room { IfOk result (λ r. r.words ≡ most_words (frames_of (system_of ready.now.boot))) }
-    ensures short { IfOk result (λ _. most_bytes (system_of ready.now.boot) ≤ FILE_ROOM) }
-    ensures stops { IfErr result (HasNoRoom (system_of ready.now.boot)) }
+    ensures room { IfOk result (λ r. r.words ≡ most_words (frames_of (image_system ready.now.boot))) }
+    ensures short { IfOk result (λ _. most_bytes (image_system ready.now.boot) ≤ FILE_ROOM) }
+    ensures stops { IfErr result (HasNoSaveRoom (image_system ready.now.boot)) }
 {
     ready.layer.keeps_laws();
     let frames = ready.layer.memory_map().memory_frames();
@@ -80,6 +81,7 @@ pub fn run_save<S: Shelf, O: Sink, D: Sectors>(
     requires { 1 ≤ (save_view save.now).boot.turns }
     ensures { RunDoes S.Shelf O.Sink D.Sectors (of_save (save_view save.now)) result (shelf.old, out.old, disk.old) (shelf.new, out.new, disk.new) }
 {
+    plans_have_shape();
     disk.are_sectors();
     match plan_save(alloc, save, shelf) {
         Ok(saveable) => save_system(alloc, saveable, save, shelf, out, disk),
@@ -97,12 +99,11 @@ fn save_system<S: Shelf, O: Sink, D: Sectors>(
     disk: &mut D,
 ) -> Status
     requires follows { SystemFollows saveable.ready }
-    requires room { saveable.room.words ≡ most_words (frames_of (system_of saveable.ready.boot)) }
-    requires short { most_bytes (system_of saveable.ready.boot) ≤ FILE_ROOM }
+    requires room { saveable.room.words ≡ most_words (frames_of (image_system saveable.ready.boot)) }
+    requires short { most_bytes (image_system saveable.ready.boot) ≤ FILE_ROOM }
     requires some { 1 ≤ (save_view save.now).boot.turns }
-    ensures does { SaveDoes S.Shelf O.Sink D.Sectors (saveable_for (save_view save.now) saveable) result
+    ensures { SaveDoes S.Shelf O.Sink D.Sectors (saveable_for (save_view save.now) saveable) result
         (shelf.old, out.old, disk.old) (shelf.new, out.new, disk.new) }
-    ensures taken { S.taken shelf.new ≡ S.taken shelf.old }
 {
     let answer = save_ready(alloc, saveable, save, shelf, out, disk);
     say_end(answer, out)
@@ -118,18 +119,14 @@ fn save_ready<S: Shelf, O: Sink, D: Sectors>(
     disk: &mut D,
 ) -> Result<RunEnd, LoadFault>
     requires follows { SystemFollows saveable.ready }
-    requires room { saveable.room.words ≡ most_words (frames_of (system_of saveable.ready.boot)) }
-    requires short { most_bytes (system_of saveable.ready.boot) ≤ FILE_ROOM }
+    requires room { saveable.room.words ≡ most_words (frames_of (image_system saveable.ready.boot)) }
+    requires short { most_bytes (image_system saveable.ready.boot) ≤ FILE_ROOM }
     requires some { 1 ≤ (save_view save.now).boot.turns }
     ensures answers { CallAnswers saveable.ready (save_session (save_view save.now)) result
-        (seen S.Shelf O.Sink D.Sectors shelf.old out.old disk.old) (seen S.Shelf O.Sink D.Sectors shelf.new out.new disk.new) }
+        (as_outside S.Shelf O.Sink D.Sectors shelf.old out.old disk.old) (as_outside S.Shelf O.Sink D.Sectors shelf.new out.new disk.new) }
     ensures calls { SavedCalls S.Shelf O.Sink D.Sectors saveable.ready (save_view save.now) result
         (shelf.old, out.old, disk.old) (shelf.new, out.new, disk.new) }
     ensures pasts { SessionPasts saveable.ready (save_session (save_view save.now)) (D.size disk.old) (D.sectors disk.old) }
-    ensures taken { S.taken shelf.new ≡ S.taken shelf.old }
-    ensures unprinted { IfErr result (λ _. out.new ≡ out.old) }
-    ensures unput { IfErr result (λ _. shelf.new ≡ shelf.old) }
-    ensures still { result ≢ Err LoadFault.Disk → OnErr result (disk.new ≡ disk.old) }
 {
     let ready = &saveable.ready;
     pasts_exist(&ready.layer, &ready.boot, &ready.schedule, disk);

@@ -17,27 +17,27 @@ pub struct Save<'a> {
 
 /// Reads the words of a save, None where they aren't those of one.
 pub fn read_save(words: &Vec<String>) -> Option<Save<'_>>
-    ensures found { IfSome result (λ c. command.IsSave (command.texts words.now.items) (save_view c)) }
-    ensures only { (c : command.Save) → command.IsSave (command.texts words.now.items) c → option_map save_view result ≡ Some c }
-    ensures none { IfNone result ((c : command.Save) → command.IsSave (command.texts words.now.items) c → ⊥) }
+    ensures found { IfSome result (λ c. command.IsSave (command.word_texts words.now.items) (save_view c)) }
+    ensures only { (c : command.Save) → command.IsSave (command.word_texts words.now.items) c → option_map save_view result ≡ Some c }
+    ensures none { IfNone result ((c : command.Save) → command.IsSave (command.word_texts words.now.items) c → ⊥) }
 {
     read_by(words, "save")
 }
 
 /// Reads the words of a resume, None where they aren't those of one.
 pub fn read_resume(words: &Vec<String>) -> Option<Save<'_>>
-    ensures found { IfSome result (λ c. command.IsResume (command.texts words.now.items) (save_view c)) }
-    ensures only { (c : command.Save) → command.IsResume (command.texts words.now.items) c → option_map save_view result ≡ Some c }
-    ensures none { IfNone result ((c : command.Save) → command.IsResume (command.texts words.now.items) c → ⊥) }
+    ensures found { IfSome result (λ c. command.IsResume (command.word_texts words.now.items) (save_view c)) }
+    ensures only { (c : command.Save) → command.IsResume (command.word_texts words.now.items) c → option_map save_view result ≡ Some c }
+    ensures none { IfNone result ((c : command.Save) → command.IsResume (command.word_texts words.now.items) c → ⊥) }
 {
     read_by(words, "resume")
 }
 
 // Reads the words of a boot behind this first word, with the name of a file behind them.
 fn read_by<'a>(words: &'a Vec<String>, first: &str) -> Option<Save<'a>>
-    ensures found { IfSome result (λ c. command.IsSaveBy first.now (command.texts words.now.items) (save_view c)) }
-    ensures only { (c : command.Save) → command.IsSaveBy first.now (command.texts words.now.items) c → option_map save_view result ≡ Some c }
-    ensures none { IfNone result ((c : command.Save) → command.IsSaveBy first.now (command.texts words.now.items) c → ⊥) }
+    ensures found { IfSome result (λ c. command.IsSaveBy first.now (command.word_texts words.now.items) (save_view c)) }
+    ensures only { (c : command.Save) → command.IsSaveBy first.now (command.word_texts words.now.items) c → option_map save_view result ≡ Some c }
+    ensures none { IfNone result ((c : command.Save) → command.IsSaveBy first.now (command.word_texts words.now.items) c → ⊥) }
 {
     let [word, image, schedule, turns, steps, file] = words.as_slice() else {
         return None;

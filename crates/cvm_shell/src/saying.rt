@@ -1,8 +1,8 @@
 // What is said beside a status.
 ghost use Rattle.std.specs.Prelude.{◌≡◌, ◌≢◌};
 ghost use Rattle.cvm_shell.specs.Does.{SaysAs, SaysStop, SaysFault, SaysEnd};
-ghost use Rattle.cvm_shell.specs.Stages.{status_of_end};
 ghost use Rattle.cvm_shell.specs.Views.{stated_row, stated_status};
+ghost use Rattle.run_scripts.specs.RunStatus.{status_of_end};
 
 use crate::boot::Stop;
 use crate::refusal::Refusal;

@@ -1,7 +1,7 @@
-pub mod Converse
-pub mod Cuts
+pub mod ReadIsSpelled
+pub mod FirstByteCuts
 pub mod Digits
 pub mod FirstLine
 pub mod HexDigits
 pub mod Spelling
-pub mod Whole
+pub mod WholeNumbers

@@ -12,7 +12,7 @@ use Rattle.std.proofs.lemmas.Bool.{and_from, cases_eq}
 use Rattle.std.proofs.lemmas.Bool.Decides.{nat_tests}
 use Rattle.std.proofs.Math.Seq.{take-append_seam}
 use Rattle.std.proofs.Common.{rules}
-use Rattle.cvm_text.specs.Number.{digits_at, is_spelling, value_of, below_limit, number_at}
+use Rattle.cvm_text.specs.Number.{digits_at, is_spelling, value_of, below_limit, spelled_number_at}
 use Rattle.cvm_text.proofs.Digits.{prefix_len_all, limit_is_small, limit_some, limit_below, both}
 
 own : IsNumeralModel (λ ds. list_all is_ascii_digit ds ≡ true) (digits_value 10)
@@ -61,9 +61,9 @@ run_of n rest small ends =
     let e = prefix_len-append is_ascii_digit (decimal n) rest in
     grind (arith, nat_tests, e, whole, ends)
 
--- a number that is spelled at a place, with fails further digit after it, is the number at that place
+-- a number that is spelled at a position, with fails further digit after it, is the number at that position
 pub number_at-decimal : (bytes : List ℕ) (at n : ℕ) (rest : List ℕ) → n < 2 ^ 64 → drop at bytes ≡ decimal n ++ rest
-    → prefix_len is_ascii_digit rest ≡ 0 → number_at bytes at ≡ Some (n, at + length (decimal n))
+    → prefix_len is_ascii_digit rest ≡ 0 → spelled_number_at bytes at ≡ Some (n, at + length (decimal n))
 number_at-decimal bytes at n rest small here ends =
     let run : digits_at bytes at ≡ decimal n
     = ap (λ t. take (prefix_len is_ascii_digit t) t) here

@@ -7,4 +7,4 @@ hex_digit d = if nat_lt d 10 then 48 + d else 87 + d
 
 -- the digits of a word, the highest first
 abbrev pub hex8 : ℕ → List ℕ
-hex8 word = map (λ place. hex_digit (word / 16 ^ place % 16)) (7 ∷ (6 ∷ (5 ∷ (4 ∷ (3 ∷ (2 ∷ (1 ∷ (0 ∷ []))))))))
+hex8 word = map (λ position. hex_digit (word / 16 ^ position % 16)) (7 ∷ (6 ∷ (5 ∷ (4 ∷ (3 ∷ (2 ∷ (1 ∷ (0 ∷ []))))))))

@@ -3,17 +3,17 @@
 ghost use Rattle.std.specs.Prelude.{◌≡◌, ◌≤◌, ◌<◌, ◌^◌, ◌+◌, ◌-◌, ◌*◌, ◌++◌, ℕ, List, true, length, take, drop, IfSome, IfNone, Some, None, decimal};
 ghost use Rattle.std.specs.List.{list_all, prefix_len};
 ghost use Rattle.std.specs.Char.{is_ascii_digit};
-ghost use Rattle.cvm_text.specs.Number.{digits_at as digits_at_of, is_spelling as is_spelling_of, number_at, value_of as value_of_of, below_limit, IsSpelledAt};
+ghost use Rattle.cvm_text.specs.Number.{digits_at as digits_at_of, is_spelling as is_spelling_of, spelled_number_at, value_of as value_of_of, below_limit, IsSpelledAt};
 
-/// Reads the number that stands in `bytes` at the place `at`: `0`, or a digit
+/// Reads the number that stands in `bytes` at the position `at`: `0`, or a digit
 /// 1 to 9 and all digits after it.
 ///
-/// Answers the number and the place after its last digit, and None where no
+/// Answers the number and the position after its last digit, and None where no
 /// digit stands at `at`, where a further digit follows a leading 0, and where
 /// the number is above 2^64 - 1.
 pub fn read_decimal(bytes: &[u8], at: usize) -> Option<(u64, usize)>
     requires { at ≤ length bytes.now }
-    ensures value { result ≡ number_at bytes.now at }
+    ensures value { result ≡ spelled_number_at bytes.now at }
     ensures spelled { IfSome result (λ r. digits_at_of bytes.now at ≡ decimal r.0) }
     ensures none { IfNone result ((n : ℕ) → n < 2 ^ 64 → digits_at_of bytes.now at ≡ decimal n → ⊥) }
     ensures within { IfSome result (λ r. r.1 ≤ length bytes.now) }
@@ -27,17 +27,17 @@ pub fn read_decimal(bytes: &[u8], at: usize) -> Option<(u64, usize)>
     Some((value, at + digits.len()))
 }
 
-/// A law: a number below 2^64 that is spelled at a place, and that no further
+/// A law: a number below 2^64 that is spelled at a position, and that no further
 /// digit follows, is read from there.
 pub fn spelled_numbers_are_read()
     ensures { (bytes : List ℕ) (at n : ℕ) (rest : List ℕ) → n < 2 ^ 64 → drop at bytes ≡ decimal n ++ rest
-        → prefix_len is_ascii_digit rest ≡ 0 → number_at bytes at ≡ Some (n, at + length (decimal n)) }
+        → prefix_len is_ascii_digit rest ≡ 0 → spelled_number_at bytes at ≡ Some (n, at + length (decimal n)) }
 {}
 
-/// A law: what is read from a place is a number that is spelled there, up to
-/// the place after its last digit.
+/// A law: what is read from a position is a number that is spelled there, up to
+/// the position after its last digit.
 pub fn read_numbers_are_spelled()
-    ensures { (bytes : List ℕ) (at : ℕ) (read : ℕ × ℕ) → number_at bytes at ≡ Some read → IsSpelledAt bytes at read.0 read.1 }
+    ensures { (bytes : List ℕ) (at : ℕ) (read : ℕ × ℕ) → spelled_number_at bytes at ≡ Some read → IsSpelledAt bytes at read.0 read.1 }
 {}
 
 // The digits that stand in `bytes` from `at` on.

@@ -12,12 +12,12 @@ fn put_fault(out: &mut String, fault: SaveFault) -> Result<(), AllocError> {
     match fault {
         SaveFault::Magic | SaveFault::Memory => {}
         SaveFault::Truncated { at } | SaveFault::Trailing { at } => write!(out, " {at}")?,
-        SaveFault::Field { place, value } => write!(out, " {place} {value}")?,
+        SaveFault::Field { position, value } => write!(out, " {position} {value}")?,
         SaveFault::ForgedWord {
-            place,
+            position,
             stored,
             made,
-        } => write!(out, " {place} {stored} {made}")?,
+        } => write!(out, " {position} {stored} {made}")?,
         SaveFault::SizeTooLarge { user, pages } => write!(out, " {user} {pages}")?,
         SaveFault::TurnsDone { saved, wanted } => write!(out, " {saved} {wanted}")?,
         SaveFault::SaveTooLarge { bytes } => write!(out, " {bytes}")?,

@@ -42,15 +42,19 @@ fn put_numbers(out: &mut String, number: u32, fields: &[u64]) -> Result<(), Allo
     out.push('\n')
 }
 
-// A word that differs, by its place and by the bits that differ, so that the word itself need not be known.
+// A word that differs, by its position and by the bits that differ, so that the word itself need not be known.
 fn put_forged(
     out: &mut String,
     number: u32,
-    place: u64,
+    position: u64,
     stored: u32,
     made: u32,
 ) -> Result<(), AllocError> {
-    writeln!(out, "refused {number} {place}, bits {:08x}", stored ^ made)?;
+    writeln!(
+        out,
+        "refused {number} {position}, bits {:08x}",
+        stored ^ made
+    )?;
     Ok(())
 }
 
@@ -69,10 +73,10 @@ fn put_counts(out: &mut String, number: u32, stored: u64, made: u64) -> Result<(
 fn put_link_fault(out: &mut String, fault: LinkFault) -> Result<(), AllocError> {
     match fault {
         LinkFault::ObjectForged {
-            place,
+            position,
             stored,
             made,
-        } => put_forged(out, fault.number(), place, stored, made),
+        } => put_forged(out, fault.number(), position, stored, made),
         LinkFault::ObjectForgedCount { stored, made } => {
             put_counts(out, fault.number(), stored, made)
         }
@@ -84,10 +88,10 @@ fn put_link_fault(out: &mut String, fault: LinkFault) -> Result<(), AllocError> 
 fn put_accept_fault(out: &mut String, fault: AcceptFault) -> Result<(), AllocError> {
     match fault {
         AcceptFault::Forged {
-            place,
+            position,
             stored,
             made,
-        } => put_forged(out, fault.number(), place, stored, made),
+        } => put_forged(out, fault.number(), position, stored, made),
         AcceptFault::ForgedCount { stored, made } => put_counts(out, fault.number(), stored, made),
         _ => put_numbers(out, fault.number(), &fault.fields()),
     }

@@ -90,7 +90,7 @@ impl Frames {
     }
 
     /// The 1,024 words of the frame with the number `frame`, to be read in place.
-    #[tactic(auto, using(crate::proofs::Store::range_frame))]
+    #[tactic(auto, using(crate::proofs::FrameIsItsPart::range_frame))]
     pub fn lend(&self, frame: u32) -> &[u32; 1024]
         requires { 1024 * frame + 1024 ≤ length self.now }
         ensures { result.now ≡ frame_of self.now frame }

@@ -1,7 +1,7 @@
 // Where the page tables are: the entry of a page.
 ghost use Rattle.std.specs.Prelude.{◌≡◌, map as each};
 ghost use Rattle.mips_table.specs.Encoding.{encoding};
-ghost use Rattle.page_model.specs.Places.{places_of};
+ghost use Rattle.page_model.specs.TableLayout.{table_layout};
 ghost use Rattle.frame_table.specs.Code.{walk_page_table_code};
 
 use layer_map::Map;
@@ -22,7 +22,7 @@ const ENTRY_OF_PAGE: [Inst; 7] = code! {
 
 /// Code that finds the entry of the page in PAGE: ENTRY becomes its address, FRAME the frame in it, VALID its valid bit; T0 changes.
 pub fn walk_page_table(map: &Map) -> Code
-    ensures { result ≡ each encoding (walk_page_table_code (places_of map.now)) }
+    ensures { result ≡ each encoding (walk_page_table_code (table_layout map.now)) }
 {
     block! {
         then load_immediate(ENTRY, map.page_tables());

@@ -3,11 +3,11 @@ use Rattle.std.proofs.Common.{◌≡◌, ℕ, zero, suc, ◌+◌, ◌-◌, ◌<�
 use Rattle.std.specs.Prelude.{take, drop, map, Some, slice_get, slice_index_or}
 use Rattle.std.proofs.lemmas.List.{append_assoc}
 use Rattle.mips_table.specs.Flat.{Flat}
-use Rattle.cvm_model.specs.Kernel.{parts_of}
+use Rattle.cvm_model.specs.Kernel.{parts_of_value}
 use Rattle.cvm_model.specs.Primitives.{no_flat, user_of}
 use Rattle.cvm_model.specs.Cvm.{System, Cvm, Status, Running, Halted, Faulted}
 use Rattle.cvm_model.specs.Text.{rows_text, end_text, globals_text, log_text, user_text, users_text, report_text, closing_text, boot_text}
-use Rattle.kernel_boots.specs.Separation.{in_front, behind}
+use Rattle.kernel_boots.specs.Separation.{in_front, behind_user}
 
 -- the rows of users, from number k on, cut at the n-th of them
 cut_users : (k n : ℕ) (us : List Flat) → n < length us → users_text k us ≡ users_text k (take n us) ++ (user_text (k + n) (slice_index_or us n no_flat) ++ users_text (k + n + 1) (drop (suc n) us))
@@ -42,12 +42,12 @@ closes y c Running h = refl
 closes y c Halted h = refl
 closes y c (Faulted f) h = absurd h
 
-pub cut_boot : (y : System) (c : Cvm) (u : ℕ) → IsReported c.status → 1 ≤ u → u ≤ length c.core.users → boot_text y c ≡ in_front y c u ++ (user_text u (user_of c.core.users u) ++ behind c u)
+pub cut_boot : (y : System) (c : Cvm) (u : ℕ) → IsReported c.status → 1 ≤ u → u ≤ length c.core.users → boot_text y c ≡ in_front y c u ++ (user_text u (user_of c.core.users u) ++ behind_user c u)
 cut_boot y c u reported some few =
-    let k : List ℕ = globals_text y.boot.meaning.names (parts_of c.core.c0.global_values) ++ log_text c.core.console.log in
+    let k : List ℕ = globals_text y.boot.meaning.names (parts_of_value c.core.c0.global_values) ++ log_text c.core.console.log in
     ap (λ t. rows_text c.rows ++ t) (closes y c c.status reported)
     ∙ ap (λ t. rows_text c.rows ++ (end_text c.status ++ (k ++ t))) (cut_user u c.core.users some few)
-    ∙ regroup (rows_text c.rows) (end_text c.status) k (users_text 1 (take (u - 1) c.core.users)) (user_text u (user_of c.core.users u) ++ behind c u)
+    ∙ regroup (rows_text c.rows) (end_text c.status) k (users_text 1 (take (u - 1) c.core.users)) (user_text u (user_of c.core.users u) ++ behind_user c u)
 
 -- A USER'S WORDS
 pub there : {A : Type 0} (xs : List A) (n : ℕ) (x : A) → slice_get xs n ≡ Some x → n < length xs

@@ -7,7 +7,11 @@ use Rattle.mips_table.specs.Device.{Environment, HasEightLines}
 use Rattle.mips_table.specs.Turns.{complete, end_within, lines_of_turn}
 use Rattle.mips_table.specs.Machine.{State}
 use Rattle.boot_turns.specs.declared.answers.View.TheVariants.{Boot}
-use Rattle.boot_turns.specs.Headline.{Ending, Done, KernelFaulted, OutOfSteps, ending_of, ending, TextAt, RanFrom}
+use Rattle.boot_run.specs.declared.whole.RunEnd.{RunEnd}
+use Rattle.boot_run.specs.declared.whole.RunEnd.TheVariants.{KernelFaulted, OutOfSteps}
+use Rattle.boot_run.specs.RunCalls.{end_by}
+use Rattle.run_scripts.specs.RunStatus.{status_of_end}
+use Rattle.run_scripts.specs.RanFrom.{ending, TextAt, RanFrom}
 use Rattle.cvm_model.specs.Cvm.{System, Cvm, Status as CvmStatus, Running, Halted, Faulted, IsCvm}
 use Rattle.cvm_model.specs.Invariant.{HasEight, IsSafe, RunsAreLawful}
 use Rattle.cvm_model.specs.Text.{rows_text, boot_text}
@@ -23,39 +27,35 @@ use Rattle.run_scripts.specs.declared.exit_status.Status.TheVariants.{KernelFaul
 use Rattle.run_scripts.specs.declared.session.Session.{Session}
 use Rattle.cvm_outside.specs.Outside.{Outside}
 use Rattle.run_scripts.specs.Plan.{Accepts}
-use Rattle.run_scripts.specs.Boot.{booted, around, first_state, sectors_needed, ended_as, AskFor, by_boot, by_trace, by_sample, Headline}
+use Rattle.run_scripts.specs.Boot.{booted, environment_of, start_state, sectors_needed, AskFor, by_boot, by_trace, by_sample, Headline}
 use Rattle.kernel_boots.specs.Boots.{OfStates, AlwaysHas, TextOfState, turns_made, StandsAt, SessionStands, BootStands, BootsStand, BootsShow, HasSource, AsksSource, RunsItsSource, BootsOf}
 use Rattle.kernel_boots.proofs.Room.{Roomy, room_of, roomy}
 use Rattle.kernel_boots.proofs.EightLines.{eight_of, few_of, turns_have_eight}
 
 -- A STATUS without a fault
-abbrev pub NoFault : Ending → Type 0
+abbrev pub NoFault : RunEnd → Type 0
 NoFault KernelFaulted = ⊥
 NoFault other = Unit {0}
 
-no_fault_of : (s : CvmStatus) → IsSafe s → NoFault (ending_of s)
-no_fault_of Running h = tt
-no_fault_of Halted h = tt
-no_fault_of (Faulted f) h = h
-
-pub no_fault : (b : Bool) (s : CvmStatus) → IsSafe s → NoFault (if b then ending_of s else OutOfSteps)
-no_fault true s h = no_fault_of s h
+pub no_fault : (b : Bool) (s : CvmStatus) → IsSafe s → NoFault (end_by b s)
+no_fault true Running h = tt
+no_fault true Halted h = tt
+no_fault true (Faulted f) h = h
 no_fault false s h = tt
 
 abbrev OtherStatus : Status → Type 0
 OtherStatus KernelFault = ⊥
 OtherStatus other = Unit {0}
 
-other_status : (e : Ending) → NoFault e → OtherStatus (ended_as e)
-other_status Done h = tt
+other_status : (e : RunEnd) → NoFault e → OtherStatus (status_of_end e)
 other_status KernelFaulted h = h
-other_status OutOfSteps h = tt
+other_status other h = tt
 
-pub no_status : (e : Ending) → NoFault e → ended_as e ≢ KernelFault
+pub no_status : (e : RunEnd) → NoFault e → status_of_end e ≢ KernelFault
 no_status e h eq = subst OtherStatus eq (other_status e h)
 
 -- the text of a state by an ending
-abbrev IsTextOf : System → Ending → Cvm → List ℕ → Type 0
+abbrev IsTextOf : System → RunEnd → Cvm → List ℕ → Type 0
 IsTextOf y OutOfSteps c text = text ≡ rows_text c.rows
 IsTextOf y other c text = text ≡ boot_text y c
 
@@ -64,26 +64,24 @@ abbrev pub RunsAreOne : System → Type 0
 RunsAreOne y = (lines : ℕ → ℕ) (k : ℕ) (c d : Cvm) → IsCvm y lines k c → IsCvm y lines k d → c ≡ d
 
 -- WHAT WAS PRINTED is the text of the state where the run stands
-status_text : (y : System) (e : Ending) (c : Cvm) (text : List ℕ) → IsTextOf y e c text → TextOfState y (ended_as e) c text
+status_text : (y : System) (e : RunEnd) (c : Cvm) (text : List ℕ) → IsTextOf y e c text → TextOfState y (status_of_end e) c text
 status_text y OutOfSteps c text h = h
-status_text y Done c text h = h
-status_text y KernelFaulted c text h = h
+status_text y other c text h = h
 
 module _ (x : Environment) (y : System) (one : RunsAreOne y) (s : State) (held : ℕ) (old now : List (List ℕ)) (turns steps : ℕ) where
-  text_of : (t : ℕ) (e : Ending) (text : List ℕ) → TextAt x y s Boot t e text → (c : Cvm) × IsCvm y (lines_of_turn x s) (complete x s t) c × IsTextOf y e c text
+  text_of : (t : ℕ) (e : RunEnd) (text : List ℕ) → TextAt x y s Boot t e text → (c : Cvm) × IsCvm y (lines_of_turn x s) (complete x s t) c × IsTextOf y e c text
   text_of t OutOfSteps text h = h
-  text_of t Done text h = h
-  text_of t KernelFaulted text h = h
+  text_of t other text h = h
 
-  pub stands : (e : Ending) (text : List ℕ) → RanFrom x y s held old now Boot turns steps e text → StandsAt x y s turns steps (ended_as e) text
+  pub stands : (e : RunEnd) (text : List ℕ) → RanFrom x y s held old now Boot turns steps e text → StandsAt x y s turns steps (status_of_end e) text
   stands e text h =
       let t = text_of (end_within x s turns steps) e text h.text_is in
       let same : t.0 ≡ h.past = one (lines_of_turn x s) (complete x s (end_within x s turns steps)) t.0 h.past t.1 h.cvm in
       record {
         state = h.past;
         is = h.cvm;
-        status_is = ap ended_as h.status;
-        text_is = subst (λ (c : Cvm). TextOfState y (ended_as e) c text) same (status_text y e t.0 text t.2);
+        status_is = ap status_of_end h.status;
+        text_is = subst (λ (c : Cvm). TextOfState y (status_of_end e) c text) same (status_text y e t.0 text t.2);
         over = h.over;
       }
 
@@ -94,9 +92,9 @@ ones laws s rows lines k c d = laws.same (booted s rows) lines k c d (laws.kerne
 pub boots_stand : RunsAreLawful → BootsStand
 boots_stand laws words status old new headlines session s rows before honest some view =
     let h : Headline session s rows before old new status = headlines session s rows before honest some in
-    let x = around rows old in
+    let x = environment_of rows old in
     let y = booted s rows in
-    let first = first_state session s rows before in
+    let first = start_state session s rows before in
     let held = sectors_needed session s rows in
     let ran = subst (λ v. RanFrom x y first held before h.after v session.turns session.steps h.ending h.text) view h.ran in
     record {
@@ -107,7 +105,7 @@ boots_stand laws words status old new headlines session s rows before honest som
     }
 
 -- the schedule that is asked for raises eight lines
-pub asked_eight : (words : List (List ℕ)) (file : List ℕ → Option (List ℕ)) (session : Session) (s : ImageSystem) (rows : Rows) → AskFor words file session s rows → (old : Outside) → HasEightLines (around rows old)
+pub asked_eight : (words : List (List ℕ)) (file : List ℕ → Option (List ℕ)) (session : Session) (s : ImageSystem) (rows : Rows) → AskFor words file session s rows → (old : Outside) → HasEightLines (environment_of rows old)
 asked_eight words file session s rows (by_boot b is same files) old = eight_of files.schedule rows files.valid
 asked_eight words file session s rows (by_trace t is same files) old = eight_of files.schedule rows files.valid
 asked_eight words file session s rows (by_sample n is same parts) old = eight_of _ rows parts.valid
@@ -121,8 +119,8 @@ asked_few words file session s rows (by_sample n is same parts) = few_of _ rows 
 pub boots_show : RunsAreLawful → BootsShow
 boots_show laws P words status old new headlines session s rows before honest some view always =
     let b : BootStands session s rows before status old new = boots_stand laws words status old new headlines session s rows before honest some view in
-    let x = around rows old in
-    let first = first_state session s rows before in
+    let x = environment_of rows old in
+    let first = start_state session s rows before in
     let eight : HasEight (lines_of_turn x first) = turns_have_eight x first (asked_eight words old.shelf.file session s rows honest.asked old) in
     let has : P (lines_of_turn x first) (turns_made x first session.turns session.steps) b.stands.state = always (lines_of_turn x first) eight _ b.stands.state b.stands.is in
     record {

@@ -20,7 +20,7 @@ use Rattle.schedule_file.specs.declared.row.Row.{Row}
 use Rattle.schedule_file.specs.declared.row.Row.TheVariants.{Line, Busy, Input}
 use Rattle.schedule_file.specs.Rows.{Rows, with_lines, lines_at, with_row}
 use Rattle.schedule_file.specs.Text.{row_of}
-use Rattle.schedule_file.specs.Schedule.{no_rows, is_late, is_too_many, fault_of_row, fault_of_line, with_line, rows_of, first_fault, unless, schedule_of}
+use Rattle.schedule_file.specs.Schedule.{no_rows, is_late, is_too_many, fault_of_row, fault_of_line, with_line, rows_of, first_row_fault, unless, schedule_of}
 use Rattle.cvm_model.specs.Invariant.{HasEight}
 
 abbrev Small : LineRow → Type 0
@@ -63,10 +63,10 @@ none_of : (a b : Option ScheduleFault) → option_or a b ≡ None → (a ≡ Non
 none_of None b e = (refl, e)
 none_of (Some f) b e = absurd (cc)
 
-all_lines : (before lines : List (List ℕ)) → first_fault before lines ≡ None → Right (rows_of before) → Right (rows_of (before ++ lines))
+all_lines : (before lines : List (List ℕ)) → first_row_fault before lines ≡ None → Right (rows_of before) → Right (rows_of (before ++ lines))
 all_lines before [] e h = subst (λ ls. Right (rows_of ls)) (sym (append-nil before)) h
 all_lines before (line ∷ lines) e h =
-    let n = none_of (fault_of_line (rows_of before) (length before + 1) line) (first_fault (before ++ line ∷ []) lines) e in
+    let n = none_of (fault_of_line (rows_of before) (length before + 1) line) (first_row_fault (before ++ line ∷ []) lines) e in
     subst (λ ls. Right (rows_of ls)) (append_assoc before (line ∷ []) lines) (all_lines (before ++ line ∷ []) lines n.1 (one_more before line n.0 h))
 
 valid : (o : Option ScheduleFault) (made rows : Rows) → ◌≡◌ {A = Result Rows ScheduleFault} (unless o made) (Ok rows) → (o ≡ None) × (made ≡ rows)
@@ -76,7 +76,7 @@ valid (Some f) made rows e = absurd (cc)
 right_of : (text : List ℕ) (rows : Rows) → schedule_of text ≡ Ok rows → Right rows
 unfolding schedule_of
 right_of text rows e =
-    let v = valid (first_fault [] (lines_of text)) (rows_of (lines_of text)) rows e in
+    let v = valid (first_row_fault [] (lines_of text)) (rows_of (lines_of text)) rows e in
     subst Right v.1 (all_lines [] (lines_of text) v.0 (record { bits = All-nil Small; few = omega arith }))
 
 bits_within : (bits : ℕ) (rows : List LineRow) → bits < 2 ^ 8 → All Small rows → fold with_lines bits rows < 2 ^ 8

@@ -17,7 +17,7 @@ use Rattle.kernel_linker.specs.Sources.{AcceptedAreOfImages}
 use Rattle.user_c0.specs.Image.{image_words}
 use Rattle.run_scripts.specs.declared.session.Session.{Session}
 use Rattle.run_scripts.specs.Boot.{AskFor, by_boot, by_trace, by_sample}
-use Rattle.run_scripts.specs.Plan.{Accepts, words_from, before_them}
+use Rattle.run_scripts.specs.Plan.{Accepts, user_words_from, before_them}
 use Rattle.cvm_shell.specs.Programs.{HasProgram, LinkedPrograms}
 use Rattle.real_layer.specs.Image.{layer_image}
 use Rattle.kernel_boots.specs.Boots.{AsksSource, HasSource}
@@ -26,18 +26,18 @@ use Rattle.kernel_boots.specs.Linked.{IsLinkedOf}
 use Rattle.kernel_boots.proofs.Boots.{of_image}
 
 -- files have as many users' words as there are files
-words_length : (first : ℕ) (files words : List (List ℕ)) → words_from first files ≡ Ok words → length words ≡ length files
+words_length : (first : ℕ) (files words : List (List ℕ)) → user_words_from first files ≡ Ok words → length words ≡ length files
 words_length first [] words e = let same : [] ≡ words = cc in sym (ap length same)
 words_length first (f ∷ files) words e = by (nat_eq (length f % 4) 0) e (λ rest. words_length (suc first) files rest)
   where
-    before : (r : Result (List (List ℕ)) FileFault) → words_from (suc first) files ≡ r → before_them (words_of_bytes f) r ≡ Ok words
-        → ((rest : List (List ℕ)) → words_from (suc first) files ≡ Ok rest → length rest ≡ length files) → length words ≡ suc (length files)
+    before : (r : Result (List (List ℕ)) FileFault) → user_words_from (suc first) files ≡ r → before_them (words_of_bytes f) r ≡ Ok words
+        → ((rest : List (List ℕ)) → user_words_from (suc first) files ≡ Ok rest → length rest ≡ length files) → length words ≡ suc (length files)
     before (Ok rest) q k more = let same : words_of_bytes f ∷ rest ≡ words = cc in sym (ap length same) ∙ ap suc (more rest q)
     before (Err x) q k more = absurd (cc)
 
-    by : (b : Bool) → (if b then before_them (words_of_bytes f) (words_from (suc first) files) else Err (UserTorn first (length f))) ≡ Ok words
-        → ((rest : List (List ℕ)) → words_from (suc first) files ≡ Ok rest → length rest ≡ length files) → length words ≡ suc (length files)
-    by true k more = before (words_from (suc first) files) refl k more
+    by : (b : Bool) → (if b then before_them (words_of_bytes f) (user_words_from (suc first) files) else Err (UserTorn first (length f))) ≡ Ok words
+        → ((rest : List (List ℕ)) → user_words_from (suc first) files ≡ Ok rest → length rest ≡ length files) → length words ≡ suc (length files)
+    by true k more = before (user_words_from (suc first) files) refl k more
     by false k more = absurd (cc)
 
 -- two users that are known

@@ -14,7 +14,7 @@ use Rattle.cvm_model.specs.Invariant.{machine_after}
 use Rattle.cvm_model.specs.Journal.{begin_entries, running_entries, turn_entries, journal, replay_step, replay_trap, replay_entry, replay, Isolated}
 use Rattle.kernel_theorems.specs.UserRuns.{after}
 use Rattle.called_primitives.specs.Kernels.{LeavesAlone}
-use Rattle.kernel_boots.specs.OwnRuns.{own_steps, entry_of, own_journal, RunsAreOwn}
+use Rattle.kernel_boots.specs.OwnRuns.{own_steps, step_entry, own_journal, RunsAreOwn}
 
 -- AN ENTRY OF ITS OWN is a step or a trap
 abbrev is_own : JournalEntry → Bool
@@ -41,10 +41,10 @@ some_same a b e = cc
 -- an entry of its own is that of its next step
 record OwnEntry (f : Flat) (e : JournalEntry) (g : Flat) : Type 0 where
   machine : g ≡ machine_after (vstep f)
-  entry : e ≡ entry_of (vstep f)
+  entry : e ≡ step_entry (vstep f)
 
 own_step : (f g : Flat) (v : VStep) → vstep f ≡ v → replay_step v ≡ Some g → OwnEntry f Stepped g
-own_step f g (Goes h) e r = record { machine = sym (ap machine_after e ∙ some_same h g r); entry = sym (ap entry_of e) }
+own_step f g (Goes h) e r = record { machine = sym (ap machine_after e ∙ some_same h g r); entry = sym (ap step_entry e) }
 own_step f g (Trap h cause edata) e r = absurd (none_some g r)
 
 own_trap : (f g : Flat) (c d : ℕ) (v : VStep) → vstep f ≡ v → replay_trap v c d ≡ Some g → OwnEntry f (Trapped c d) g
@@ -56,7 +56,7 @@ own_trap f g c d (Trap h cause edata) e r = by (cause_number cause == c && edata
         let parts = and_parts (cause_number cause == c) (edata == d) t in
         record {
           machine = sym (ap machine_after e ∙ some_same h g r);
-          entry = sym (ap entry_of e ∙ ap₂ Trapped (eqb-true (cause_number cause) c parts.0) (eqb-true edata d parts.1));
+          entry = sym (ap step_entry e ∙ ap₂ Trapped (eqb-true (cause_number cause) c parts.0) (eqb-true edata d parts.1));
         }
     by false t r = absurd (none_some g r)
 

@@ -9,7 +9,7 @@ use Rattle.layer_map.specs.declared.params.Params.{Params}
 use Rattle.cvm_words.specs.Bytes.{words_of_bytes}
 use Rattle.boot_image.specs.declared.fault.ImageFault.{ImageFault}
 use Rattle.boot_image.specs.Parts.{ImageParts as Image}
-use Rattle.boot_image.specs.Format.{most_words}
+use Rattle.boot_image.specs.Format.{most_user_words}
 use Rattle.cvm_words.specs.Reading.{◌>>=◌}
 use Rattle.boot_image.specs.Reading.{mark_at, number_at, form_at, params_at, counts_at, bare_at, system_at, header_of, parts_of, image_of, users_of, answer}
 use Rattle.kernel_linker.specs.Accept.{ImageSystem}
@@ -93,7 +93,7 @@ record HeaderIn (p : Params) (counts : List ℕ) : Type 0 where
   stack : 64 ≤ p.stack
   pages : p.pages ≤ 1024
   few : length counts ≤ 64
-  sizes : All (λ n. n ≤ most_words p.pages) counts
+  sizes : All (λ n. n ≤ most_user_words p.pages) counts
 
 -- the same of an equal header, whose type has no name here
 told : {H : Type 0} (x y : H × (List ℕ × List ℕ)) → x ≡ y → (params : H → Params) → HeaderIn (params x.0) x.1.0 → HeaderIn (params y.0) y.1.0
@@ -103,7 +103,7 @@ bare_in : (bytes : List ℕ) (x : _) → bare_at bytes ≡ Ok x → HeaderIn x.0
 unfolding bare_at
 bare_in bytes x h =
     let w = went (number_at 2 0 1048576 bytes) _ x h in
-    told _ x (one_is _ _ x refl w.next) (λ head. head.params) (record { stack = omega arith; pages = omega arith; few = omega arith; sizes = All-nil (λ n. n ≤ most_words 1) })
+    told _ x (one_is _ _ x refl w.next) (λ head. head.params) (record { stack = omega arith; pages = omega arith; few = omega arith; sizes = All-nil (λ n. n ≤ most_user_words 1) })
 
 system_in : (form users pages : ℕ) (bytes : List ℕ) (x : _) → users ≤ 64 → pages ≤ 1024 → system_at form users pages bytes ≡ Ok x → HeaderIn x.0.params x.1.0
 unfolding system_at
@@ -112,13 +112,13 @@ system_in form users pages bytes x few some h =
     let b = went (params_at pages a.x.1) _ x a.next in
     let c = went (number_at 7 0 1048576 b.x.1) _ x b.next in
     let d = went (number_at 8 16384 4194304 c.x.1) _ x c.next in
-    let e = went (counts_at [] (most_words b.x.0.pages) a.x.0 d.x.1) _ x d.next in
+    let e = went (counts_at [] (most_user_words b.x.0.pages) a.x.0 d.x.1) _ x d.next in
     told _ x (one_is _ _ x refl e.next) (λ head. head.params)
     (record {
       stack = stack_in pages a.x.1 b.x b.is;
       pages = let most = pages_in pages a.x.1 b.x b.is in omega (arith, most, some);
-      few = let long = counts_long [] (most_words b.x.0.pages) a.x.0 d.x.1 e.x e.is in let most = (number_in 2 0 users bytes a.x a.is).1 in omega (arith, long, most, few);
-      sizes = counts_in [] (most_words b.x.0.pages) a.x.0 d.x.1 e.x (All-nil (λ n. n ≤ most_words b.x.0.pages)) e.is;
+      few = let long = counts_long [] (most_user_words b.x.0.pages) a.x.0 d.x.1 e.x e.is in let most = (number_in 2 0 users bytes a.x a.is).1 in omega (arith, long, most, few);
+      sizes = counts_in [] (most_user_words b.x.0.pages) a.x.0 d.x.1 e.x (All-nil (λ n. n ≤ most_user_words b.x.0.pages)) e.is;
     })
 
 header_in : (bytes : List ℕ) (x : _) → header_of bytes ≡ Ok x → HeaderIn x.0.params x.1.0
@@ -142,14 +142,14 @@ words_few n (a ∷ b ∷ c ∷ []) few = omega arith
 words_few zero (a ∷ b ∷ c ∷ d ∷ bytes) few = absurd (omega (arith, few))
 words_few (suc n) (a ∷ b ∷ c ∷ d ∷ bytes) few = let rest = words_few n bytes (omega (arith, few)) in omega (arith, rest)
 
-users_in : (pages : ℕ) (counts bytes : List ℕ) → All (λ n. n ≤ most_words pages) counts → All (λ (u : List ℕ). length u ≤ 1024 * pages) (users_of counts bytes)
+users_in : (pages : ℕ) (counts bytes : List ℕ) → All (λ n. n ≤ most_user_words pages) counts → All (λ (u : List ℕ). length u ≤ 1024 * pages) (users_of counts bytes)
 unfolding users_of
 users_in pages [] bytes all = All-nil (λ (u : List ℕ). length u ≤ 1024 * pages)
 users_in pages (n ∷ counts) bytes all =
     let few = words_few n (take (4 * n) bytes) (omega (arith, length-take (4 * n) bytes)) in
-    let head = All-head (λ n. n ≤ most_words pages) n counts all in
+    let head = All-head (λ n. n ≤ most_user_words pages) n counts all in
     All-cons (λ (u : List ℕ). length u ≤ 1024 * pages) (words_of_bytes (take (4 * n) bytes)) (users_of counts (drop (4 * n) bytes)) (omega (arith, few, head))
-    (users_in pages counts (drop (4 * n) bytes) (All-tail (λ n. n ≤ most_words pages) n counts all))
+    (users_in pages counts (drop (4 * n) bytes) (All-tail (λ n. n ≤ most_user_words pages) n counts all))
 
 users_many : (counts bytes : List ℕ) → length (users_of counts bytes) ≡ length counts
 unfolding users_of

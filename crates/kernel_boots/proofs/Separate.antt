@@ -6,7 +6,8 @@ use Rattle.std.proofs.lemmas.List.{length-map}
 use Rattle.schedule_file.specs.Rows.{Rows}
 use Rattle.real_layer.specs.Image.{layer_image}
 use Rattle.boot_image.specs.Reading.{answer as image_of}
-use Rattle.boot_turns.specs.Headline.{OutOfSteps, ending_of}
+use Rattle.boot_run.specs.RunCalls.{end_by}
+use Rattle.run_scripts.specs.RunStatus.{status_of_end}
 use Rattle.cvm_model.specs.KernelMeaning.{UnitsReplay}
 use Rattle.cvm_model.specs.Primitives.{user_of}
 use Rattle.cvm_model.specs.Cvm.{System, Cvm, Status as CvmStatus, Running, Halted, Faulted, first_flat, first_core, first_cvm, cvm}
@@ -20,18 +21,18 @@ use Rattle.run_scripts.specs.declared.exit_status.Status.TheVariants.{Done}
 use Rattle.run_scripts.specs.declared.session.Session.{Session}
 use Rattle.cvm_outside.specs.Outside.{Outside}
 use Rattle.run_scripts.specs.Plan.{Accepts}
-use Rattle.run_scripts.specs.Boot.{booted, ended_as, AskFor, by_boot, by_trace, by_sample, IsHonest}
-use Rattle.run_scripts.specs.Isolation.{lines_met}
+use Rattle.run_scripts.specs.Boot.{booted, AskFor, by_boot, by_trace, by_sample, IsHonest}
+use Rattle.run_scripts.specs.Isolation.{session_lines}
 use Rattle.kernel_boots.specs.Boots.{BootStands, AsksSource, RunsItsSource}
 use Rattle.kernel_boots.specs.Systems.{BootIsChain, BootsAreChains}
 use Rattle.kernel_boots.proofs.Boots.{of_image}
 use Rattle.called_primitives.specs.Kernels.{LeavesAlone, ChangesNoMachine, ReadersChangeNone}
 use Rattle.kernel_boots.specs.OwnRuns.{own_steps, own_journal, OwnRun, RunsAreOwn}
-use Rattle.kernel_boots.specs.Separation.{SourceChangesNone, DoneBoot, system_of, met, made, PrintsUser, HasUser, AsksUser, Boots, own_block, BootsPrintOwn, BootsAgree, TracesAreOwn, TextsChangeNone}
+use Rattle.kernel_boots.specs.Separation.{SourceChangesNone, DoneBoot, system_of_boot, lines_of_boot, turns_of_boot, PrintsUser, ImageHasUser, AsksUser, BootsSource, own_block, BootsPrintOwn, BootsAgree, TracesAreOwn, TextsChangeNone}
 use Rattle.kernel_boots.proofs.Blocks.{IsReported, cut_boot, there, mapped}
 
 -- THE USER'S WORDS are those of the image
-words_of_image : AcceptedAreOfImages → (u : ℕ) (words bytes : List ℕ) (s : ImageSystem) → Accepts layer_image (image_of bytes) (Ok s) → HasUser u words bytes → slice_get s.users (u - 1) ≡ Some words
+words_of_image : AcceptedAreOfImages → (u : ℕ) (words bytes : List ℕ) (s : ImageSystem) → Accepts layer_image (image_of bytes) (Ok s) → ImageHasUser u words bytes → slice_get s.users (u - 1) ≡ Some words
 words_of_image law u words bytes s accepted h =
     ap (λ us. slice_get us (u - 1)) (of_image law h.0.source bytes s accepted (h.0, h.1, refl)).users ∙ h.2
 
@@ -53,7 +54,7 @@ is_there y u words some e = record {
 }
 
 -- a boot that is done has no fault
-done_reports : (b : Bool) (s : CvmStatus) → Done ≡ ended_as (if b then ending_of s else OutOfSteps) → IsReported s
+done_reports : (b : Bool) (s : CvmStatus) → Done ≡ status_of_end (end_by b s) → IsReported s
 done_reports b Running e = tt
 done_reports b Halted e = tt
 done_reports true (Faulted f) e = absurd (cc)
@@ -80,43 +81,43 @@ module _ (replays : UnitsReplay) (isolated : Isolated) (own : RunsAreOwn) (image
       }
 
   -- A BOOT
-  run_of : (source : List ℕ) → SourceChangesNone source → (u : ℕ) (words : List ℕ) (b : DoneBoot) → Boots source u words b → (n : ℕ) (c : Cvm) → cvm (system_of b) (met b) n (made b) ≡ Some c
-      → Runs b.system b.rows (met b) n (made b) u words c
+  run_of : (source : List ℕ) → SourceChangesNone source → (u : ℕ) (words : List ℕ) (b : DoneBoot) → BootsSource source u words b → (n : ℕ) (c : Cvm) → cvm (system_of_boot b) (lines_of_boot b) n (turns_of_boot b) ≡ Some c
+      → Runs b.system b.rows (lines_of_boot b) n (turns_of_boot b) u words c
   run_of source none u words b h n c is =
-      runs source none b.words b.session b.system b.rows b.before b.old b.new b.honest h.source_is u words h.some h.user_is (met b) n (made b) c is
+      runs source none b.words b.session b.system b.rows b.before b.old b.new b.honest h.source_is u words h.some h.user_is (lines_of_boot b) n (turns_of_boot b) c is
 
-  block_own : (source : List ℕ) → SourceChangesNone source → (u : ℕ) (words : List ℕ) (b : DoneBoot) → Boots source u words b → (steps : ℕ) (block : List ℕ) → PrintsUser b u steps block → block ≡ own_block u words steps
+  block_own : (source : List ℕ) → SourceChangesNone source → (u : ℕ) (words : List ℕ) (b : DoneBoot) → BootsSource source u words b → (steps : ℕ) (block : List ℕ) → PrintsUser b u steps block → block ≡ own_block u words steps
   block_own source none u words b h steps block p =
-      let r : Runs b.system b.rows (met b) p.units (made b) u words p.state = run_of source none u words b h p.units p.state p.run in
+      let r : Runs b.system b.rows (lines_of_boot b) p.units (turns_of_boot b) u words p.state = run_of source none u words b h p.units p.state p.run in
       let count : r.run.steps ≡ steps = r.run.steps_are ∙ sym p.steps_are in
-      p.block_is ∙ ap (user_text u) (r.run.machine ∙ ap (λ n. after n (user_of (first_core (system_of b)).users u)) count ∙ ap (after steps) r.there.first)
+      p.block_is ∙ ap (user_text u) (r.run.machine ∙ ap (λ n. after n (user_of (first_core (system_of_boot b)).users u)) count ∙ ap (after steps) r.there.first)
 
   module _ (chains : BootsAreChains) where
-    prints : (source : List ℕ) → SourceChangesNone source → (u : ℕ) (words : List ℕ) (b : DoneBoot) → Boots source u words b → (steps : ℕ) × (block : List ℕ) × PrintsUser b u steps block
+    prints : (source : List ℕ) → SourceChangesNone source → (u : ℕ) (words : List ℕ) (b : DoneBoot) → BootsSource source u words b → (steps : ℕ) × (block : List ℕ) × PrintsUser b u steps block
     prints source none u words b h =
         let chain : BootIsChain b.session b.system b.rows b.before Done b.old b.new = chains b.words Done b.old b.new b.headlines b.session b.system b.rows b.before b.honest (λ e. absurd (cc)) b.view in
         let shows : BootStands b.session b.system b.rows b.before Done b.old b.new = chain.shows in
         let c : Cvm = shows.stands.state in
         let n : ℕ = shows.stands.is.units in
-        let r : Runs b.system b.rows (met b) n (made b) u words c = run_of source none u words b h n c shows.stands.is.is in
-        let count : length c.core.users ≡ length b.system.users = counted (made b) refl chain in
+        let r : Runs b.system b.rows (lines_of_boot b) n (turns_of_boot b) u words c = run_of source none u words b h n c shows.stands.is.is in
+        let count : length c.core.users ≡ length b.system.users = counted (turns_of_boot b) refl chain in
         let few : u ≤ length c.core.users = let f = r.there.few in omega (arith, f, count) in (
-          own_steps (journal (system_of b) (met b) n u (made b)),
+          own_steps (journal (system_of_boot b) (lines_of_boot b) n u (turns_of_boot b)),
           user_text u (user_of c.core.users u),
           record {
             units = n;
             state = c;
             run = shows.stands.is.is;
             steps_are = refl;
-            printed = shows.printed ∙ ap (append_known b.old.sink.text) (shows.stands.text_is ∙ cut_boot (system_of b) c u (done_reports _ c.status shows.stands.status_is) h.some few);
+            printed = shows.printed ∙ ap (append_known b.old.sink.text) (shows.stands.text_is ∙ cut_boot (system_of_boot b) c u (done_reports _ c.status shows.stands.status_is) h.some few);
             block_is = refl;
           },
         )
       where
-        counted : (k : ℕ) → made b ≡ k → (chain : BootIsChain b.session b.system b.rows b.before Done b.old b.new) → length chain.shows.stands.state.core.users ≡ length b.system.users
+        counted : (k : ℕ) → turns_of_boot b ≡ k → (chain : BootIsChain b.session b.system b.rows b.before Done b.old b.new) → length chain.shows.stands.state.core.users ≡ length b.system.users
         counted zero e chain =
-            let is : Some (first_cvm (system_of b)) ≡ Some chain.shows.stands.state = subst (λ j. cvm (system_of b) (met b) chain.shows.stands.is.units j ≡ Some chain.shows.stands.state) e chain.shows.stands.is.is in
-            let same : first_cvm (system_of b) ≡ chain.shows.stands.state = cc in
+            let is : Some (first_cvm (system_of_boot b)) ≡ Some chain.shows.stands.state = subst (λ j. cvm (system_of_boot b) (lines_of_boot b) chain.shows.stands.is.units j ≡ Some chain.shows.stands.state) e chain.shows.stands.is.is in
+            let same : first_cvm (system_of_boot b) ≡ chain.shows.stands.state = cc in
             ap (λ (c : Cvm). length c.core.users) (sym same) ∙ length-map b.system.users first_flat
         counted (suc k) e chain = (chain.chain k e).fits
 
@@ -132,7 +133,7 @@ module _ (replays : UnitsReplay) (isolated : Isolated) (own : RunsAreOwn) (image
   -- A TRACE
   pub traces_are_own : TracesAreOwn
   traces_are_own source none given session u words s rows before old new status h asks some user a =
-      let lines : ℕ → ℕ = lines_met session s rows old before in
+      let lines : ℕ → ℕ = session_lines session s rows old before in
       let r : Runs s rows lines a.units a.turns u words a.last = runs source none given session s rows before old new h asks u words some user lines a.units a.turns a.last a.run in
       let count : r.run.steps ≡ own_steps a.entries = r.run.steps_are ∙ ap own_steps (sym a.entries_are) in
       let entries : a.entries ≡ own_journal (own_steps a.entries) (first_flat words) = a.entries_are ∙ r.run.entries ∙ ap (λ n. own_journal n (user_of (first_core (booted s rows)).users u)) count ∙ ap (own_journal (own_steps a.entries)) r.there.first in

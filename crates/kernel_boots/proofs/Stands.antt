@@ -17,22 +17,26 @@ use Rattle.cvm_model.specs.Text.{start_row, open_journal_rows, trace_text}
 use Rattle.layer_contract.specs.Layer.{Rests}
 use Rattle.boot_turns.specs.declared.answers.View.{View}
 use Rattle.boot_turns.specs.declared.answers.View.TheVariants as view
-use Rattle.boot_turns.specs.Headline.{Ending, Done as IsDone, KernelFaulted, OutOfSteps, ending_of, ending, TextAt, RanFrom}
-use Rattle.boot_turns.specs.Headline as headline
-use Rattle.boot_turns.specs.TurnEnds.{first_of, Stood, Printed, TurnIsOver, RestsAfter}
+use Rattle.boot_run.specs.declared.whole.RunEnd.{RunEnd}
+use Rattle.boot_run.specs.declared.whole.RunEnd.TheVariants.{OutOfSteps}
+use Rattle.boot_run.specs.RunCalls.{end_by}
+use Rattle.run_scripts.specs.RunStatus.{status_of_end}
+use Rattle.run_scripts.specs.RanFrom.{ending, TextAt, RanFrom}
+use Rattle.boot_turns.specs.TurnEnds.{first_user_machine, Stood, Printed, TurnIsOver, RestsAfter}
 use Rattle.boot_run.specs.RunEnds.{SeesUser}
+use Rattle.boot_run.specs.RunScript.{saved_row}
 use Rattle.kernel_linker.specs.Accept.{ImageSystem}
 use Rattle.run_scripts.specs.declared.exit_status.Status.{Status}
 use Rattle.run_scripts.specs.declared.exit_status.Status.TheVariants as statuses
 use Rattle.run_scripts.specs.declared.session.Session.{Session}
 use Rattle.run_scripts.specs.Command.{Save, save_session}
 use Rattle.cvm_outside.specs.Outside.{Outside}
-use Rattle.run_scripts.specs.Boot.{booted, around, first_state, sectors_needed, ended_as, AreFilesOf, Headline}
-use Rattle.run_scripts.specs.Isolation.{IsolatedTrace}
-use Rattle.run_scripts.specs.Saves.{saved_row, Stopped, IsSavedIn, SaveHolds, as_boot, is_saved, IsSavedAt}
+use Rattle.run_scripts.specs.Boot.{booted, environment_of, start_state, sectors_needed, AreFilesOf, Headline}
+use Rattle.run_scripts.specs.Isolation.{IsolatedTrace, session_lines}
+use Rattle.run_scripts.specs.Saves.{Stopped, IsSavedIn, SaveHolds, as_boot, is_saved, IsSavedAt}
 use Rattle.run_scripts.specs.Resumes.{IsBootBehind}
 use Rattle.kernel_boots.specs.Boots.{SessionStands, BootStands}
-use Rattle.kernel_boots.specs.Stands.{lines_met, under_way, TraceTextOf, TraceStandsAt, TracesStand, SavedStands, SaveStands, SavesStand, ResumesStand}
+use Rattle.kernel_boots.specs.Stands.{entries_under_way, TraceTextOf, TraceStandsAt, TracesStand, SavedStands, SaveStands, SavesStand, ResumesStand}
 use Rattle.kernel_boots.proofs.EightLines.{eight_of, turns_have_eight}
 use Rattle.kernel_boots.proofs.Boots.{RunsAreOne, ones, stands, asked_eight}
 
@@ -43,17 +47,16 @@ Allowed statuses.KernelFault = Unit {0}
 Allowed statuses.StepLimit = Unit {0}
 Allowed other = ⊥
 
-allowed : (b : Bool) (s : CvmStatus) → Allowed (ended_as (if b then ending_of s else OutOfSteps))
+allowed : (b : Bool) (s : CvmStatus) → Allowed (status_of_end (end_by b s))
 allowed true Running = tt
 allowed true Halted = tt
 allowed true (Faulted f) = tt
 allowed false s = tt
 
 -- where the steps ran out the text is what was shown so far
-spent_text : (x : Environment) (y : System) (s : State) (v : View) (t : ℕ) (e : Ending) (text : List ℕ) → ended_as e ≡ statuses.StepLimit → TextAt x y s v t e text → Printed x y s v t text
+spent_text : (x : Environment) (y : System) (s : State) (v : View) (t : ℕ) (e : RunEnd) (text : List ℕ) → status_of_end e ≡ statuses.StepLimit → TextAt x y s v t e text → Printed x y s v t text
 spent_text x y s v t OutOfSteps text e h = h
-spent_text x y s v t IsDone text e h = absurd (cc)
-spent_text x y s v t KernelFaulted text e h = absurd (cc)
+spent_text x y s v t other text e h = absurd (cc)
 
 -- a status other than that has the whole text
 whole_text : (u : ℕ) (first : Flat) (entries more : List JournalEntry) (status : Status) (c : Cvm) (text : List ℕ) → status ≢ statuses.StepLimit → text ≡ trace_text u first entries (user_of c.core.users u) c.status
@@ -70,13 +73,13 @@ some_same a b e = cc
 module _ (laws : RunsAreLawful) (replays : UnitsReplay) (isolated : Isolated) (session : Session) (u : ℕ) (s : ImageSystem) (rows : Rows) (before : List (List ℕ)) (status : Status) (old new : Outside)
     (user : (1 ≤ u) × (u ≤ length s.users)) (h : Headline session s rows before old new status) where
   abbrev x : Environment
-  x = around rows old
+  x = environment_of rows old
 
   abbrev y : System
   y = booted s rows
 
   abbrev m : State
-  m = first_state session s rows before
+  m = start_state session s rows before
 
   abbrev t : ℕ
   t = end_within x m session.turns session.steps
@@ -85,14 +88,14 @@ module _ (laws : RunsAreLawful) (replays : UnitsReplay) (isolated : Isolated) (s
   Stands text = TraceStandsAt x y m session.turns session.steps u status text
 
   made : (c : Cvm) (units : ℕ) → cvm y (lines_of_turn x m) units (complete x m t) ≡ Some c → (text : List ℕ)
-      → TraceTextOf u (first_of y u) (journal y (lines_of_turn x m) units u (complete x m t)) (under_way x y m units u t) status c text → Stands text
+      → TraceTextOf u (first_user_machine y u) (journal y (lines_of_turn x m) units u (complete x m t)) (entries_under_way x y m units u t) status c text → Stands text
   made c units is text text_is =
       let same : h.ran.past ≡ c = ones laws s rows (lines_of_turn x m) (complete x m t) h.ran.past c h.ran.cvm (record { units = units; is = is }) in
       record {
         state = c;
         units = units;
         run = is;
-        status_is = h.status_is ∙ ap ended_as (h.ran.status ∙ ap (ending x m session.turns session.steps) same);
+        status_is = h.status_is ∙ ap status_of_end (h.ran.status ∙ ap (ending x m session.turns session.steps) same);
         replayed = isolated y (lines_of_turn x m) units (complete x m t) u c (replays s.unit s.params) user.0 user.1 is;
         text_is = text_is;
         over = λ e. subst (TurnIsOver x y m session.turns t) same (h.ran.over e);
@@ -103,25 +106,25 @@ module _ (laws : RunsAreLawful) (replays : UnitsReplay) (isolated : Isolated) (s
       let so : Printed x y m session.view t h.text = spent_text x y m session.view t h.ending h.text (sym h.status_is ∙ e) h.ran.text_is in
       let (j, shown, text) = subst (λ (v : View). Printed x y m v t h.text) traced so in
       made shown.past shown.units shown.cvm h.text
-      (subst (λ (z : Status). TraceTextOf u (first_of y u) (journal y (lines_of_turn x m) shown.units u (complete x m t)) (under_way x y m shown.units u t) z shown.past h.text) (sym e)
-      (text ∙ ap (λ (k : List JournalEntry). start_row u (first_of y u) ++ open_journal_rows k) shown.is))
+      (subst (λ (z : Status). TraceTextOf u (first_user_machine y u) (journal y (lines_of_turn x m) shown.units u (complete x m t)) (entries_under_way x y m shown.units u t) z shown.past h.text) (sym e)
+      (text ∙ ap (λ (k : List JournalEntry). start_row u (first_user_machine y u) ++ open_journal_rows k) shown.is))
 
   whole : status ≢ statuses.StepLimit → (a : IsolatedTrace session u s rows before old new status) → Stands a.text
   whole isnt a =
       let is : cvm y (lines_of_turn x m) a.units (complete x m t) ≡ Some a.last = subst (λ k. cvm y (lines_of_turn x m) a.units k ≡ Some a.last) a.turns_are a.run in
       let entries : a.entries ≡ journal y (lines_of_turn x m) a.units u (complete x m t) = a.entries_are ∙ ap (journal y (lines_of_turn x m) a.units u) a.turns_are in
-      let last : replay (first_of y u) (journal y (lines_of_turn x m) a.units u (complete x m t)) ≡ Some (user_of a.last.core.users u) = isolated y (lines_of_turn x m) a.units (complete x m t) u a.last (replays s.unit s.params) user.0 user.1 is in
-      let told : option_map (λ last. trace_text u (first_of y u) (journal y (lines_of_turn x m) a.units u (complete x m t)) last a.last.status) (replay (first_of y u) (journal y (lines_of_turn x m) a.units u (complete x m t))) ≡ Some a.text =
-      subst (λ j. option_map (λ last. trace_text u (first_of y u) j last a.last.status) (replay (first_of y u) j) ≡ Some a.text) entries a.text_is in
-      let text : trace_text u (first_of y u) (journal y (lines_of_turn x m) a.units u (complete x m t)) (user_of a.last.core.users u) a.last.status ≡ a.text =
-      some_same _ _ (sym (ap (option_map (λ last. trace_text u (first_of y u) (journal y (lines_of_turn x m) a.units u (complete x m t)) last a.last.status)) last) ∙ told) in
-      made a.last a.units is a.text (whole_text u (first_of y u) (journal y (lines_of_turn x m) a.units u (complete x m t)) (under_way x y m a.units u t) status a.last a.text isnt (sym text))
+      let last : replay (first_user_machine y u) (journal y (lines_of_turn x m) a.units u (complete x m t)) ≡ Some (user_of a.last.core.users u) = isolated y (lines_of_turn x m) a.units (complete x m t) u a.last (replays s.unit s.params) user.0 user.1 is in
+      let told : option_map (λ last. trace_text u (first_user_machine y u) (journal y (lines_of_turn x m) a.units u (complete x m t)) last a.last.status) (replay (first_user_machine y u) (journal y (lines_of_turn x m) a.units u (complete x m t))) ≡ Some a.text =
+      subst (λ j. option_map (λ last. trace_text u (first_user_machine y u) j last a.last.status) (replay (first_user_machine y u) j) ≡ Some a.text) entries a.text_is in
+      let text : trace_text u (first_user_machine y u) (journal y (lines_of_turn x m) a.units u (complete x m t)) (user_of a.last.core.users u) a.last.status ≡ a.text =
+      some_same _ _ (sym (ap (option_map (λ last. trace_text u (first_user_machine y u) (journal y (lines_of_turn x m) a.units u (complete x m t)) last a.last.status)) last) ∙ told) in
+      made a.last a.units is a.text (whole_text u (first_user_machine y u) (journal y (lines_of_turn x m) a.units u (complete x m t)) (entries_under_way x y m a.units u t) status a.last a.text isnt (sym text))
 
   abbrev Shows : Type 0
   Shows = (text : List ℕ) × (new.sink.text ≡ append_known old.sink.text text) × Stands text
 
   shows : session.view ≡ view.Trace u → ((status ≡ statuses.Done) ⊎ (status ≡ statuses.KernelFault) → IsolatedTrace session u s rows before old new status) → Shows
-  shows traced isolates = by status refl (subst Allowed (sym (h.status_is ∙ ap ended_as h.ran.status)) (allowed (is_end x m session.turns t) h.ran.past.status))
+  shows traced isolates = by status refl (subst Allowed (sym (h.status_is ∙ ap status_of_end h.ran.status)) (allowed (is_end x m session.turns t) h.ran.past.status))
     where
       other : (z : Status) → status ≡ z → (z ≡ statuses.StepLimit → ⊥) → status ≢ statuses.StepLimit
       other z e isnt limit = isnt (sym e ∙ limit)
@@ -141,13 +144,13 @@ traces_stand laws replays isolated words status old new headlines isolates sessi
       text = text;
       printed = printed;
       stands = stands;
-      eight = turns_have_eight (around rows old) (first_state session s rows before) (asked_eight words old.shelf.file session s rows honest.asked old);
+      eight = turns_have_eight (environment_of rows old) (start_state session s rows before) (asked_eight words old.shelf.file session s rows honest.asked old);
       goes_on = h.goes_on;
     }
 
 -- A SAVE
-files_eight : (file : List ℕ → Option (List ℕ)) (c : Save) (s : ImageSystem) (rows : Rows) (before : List (List ℕ)) (old : Outside) → AreFilesOf file c.boot s rows → HasEight (lines_met (save_session c) s rows before old)
-files_eight file c s rows before old files = turns_have_eight (around rows old) (first_state (save_session c) s rows before) (eight_of files.schedule rows files.valid)
+files_eight : (file : List ℕ → Option (List ℕ)) (c : Save) (s : ImageSystem) (rows : Rows) (before : List (List ℕ)) (old : Outside) → AreFilesOf file c.boot s rows → HasEight (session_lines (save_session c) s rows old before)
+files_eight file c s rows before old files = turns_have_eight (environment_of rows old) (start_state (save_session c) s rows before) (eight_of files.schedule rows files.valid)
 
 -- a machine that is on rests in a running state
 on_runs : (x : Environment) (s : State) (t : ℕ) (z : CvmStatus) → (run x s t).off ≡ None → Rests z (run x s t) → z ≡ Running
@@ -163,9 +166,9 @@ stood_runs x y s (suc k) t c on h = on_runs x s t c.status on h.rests.0
 boot_stands : RunsAreLawful → (session : Session) (s : ImageSystem) (rows : Rows) (before : List (List ℕ)) (status : Status) (old new : Outside) → session.view ≡ view.Boot
     → Headline session s rows before old new status → BootStands session s rows before status old new
 boot_stands laws session s rows before status old new seen h =
-    let x = around rows old in
+    let x = environment_of rows old in
     let y = booted s rows in
-    let first = first_state session s rows before in
+    let first = start_state session s rows before in
     let held = sectors_needed session s rows in
     let ran = subst (λ v. RanFrom x y first held before h.after v session.turns session.steps h.ending h.text) seen h.ran in
     record {
@@ -193,13 +196,13 @@ stood_there x y s one count sums (suc few) steps at past last some end within on
 saved_stands : RunsAreLawful → TurnLaws → SumLaws → (c : Save) (s : ImageSystem) (rows : Rows) (before : List (List ℕ)) (old new : Outside) → 1 ≤ c.boot.turns
     → Stopped (save_session c) s rows before old new (IsSavedIn c.file old new) → SavedStands c s rows before old new
 saved_stands laws count sums c s rows before old new some h =
-    let w : IsSavedAt (around rows old) (booted s rows) (first_state (save_session c) s rows before) c.boot.turns c.boot.steps h.words h.after h.shown = h.saved_at in
-    let stood : Stood (around rows old) (booted s rows) (first_state (save_session c) s rows before) c.boot.turns w.at w.past =
-    stood_there (around rows old) (booted s rows) (first_state (save_session c) s rows before) (ones laws s rows) count sums c.boot.turns c.boot.steps w.at w.past h.ran.past some w.end w.within w.on w.cvm h.ran.cvm h.ran.over in
+    let w : IsSavedAt (environment_of rows old) (booted s rows) (start_state (save_session c) s rows before) c.boot.turns c.boot.steps h.words h.after h.shown = h.saved_at in
+    let stood : Stood (environment_of rows old) (booted s rows) (start_state (save_session c) s rows before) c.boot.turns w.at w.past =
+    stood_there (environment_of rows old) (booted s rows) (start_state (save_session c) s rows before) (ones laws s rows) count sums c.boot.turns c.boot.steps w.at w.past h.ran.past some w.end w.within w.on w.cvm h.ran.cvm h.ran.over in
     record {
       state = w.past;
       is = w.cvm;
-      running = stood_runs (around rows old) (booted s rows) (first_state (save_session c) s rows before) c.boot.turns w.at w.past w.on stood;
+      running = stood_runs (environment_of rows old) (booted s rows) (start_state (save_session c) s rows before) c.boot.turns w.at w.past w.on stood;
       at = w.at;
       within = w.within;
       first = w.end;
@@ -227,7 +230,7 @@ resumes_stand laws words status old new resumes c s rows machine left before sho
       text = j.text;
       printed = j.printed;
       stands = subst (λ (z : Status). SessionStands (save_session c) s rows before old z (shown ++ j.text)) (sym j.status_is)
-          (stands (around rows old) (booted s rows) (ones laws s rows) (first_state (save_session c) s rows before) (sectors_needed (save_session c) s rows) before j.after c.boot.turns c.boot.steps j.ending
+          (stands (environment_of rows old) (booted s rows) (ones laws s rows) (start_state (save_session c) s rows before) (sectors_needed (save_session c) s rows) before j.after c.boot.turns c.boot.steps j.ending
           (shown ++ j.text) j.ran);
       eight = files_eight old.shelf.file c s rows before old honest.files;
       goes_on = j.goes_on;

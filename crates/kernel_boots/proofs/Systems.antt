@@ -6,7 +6,9 @@ use Rattle.schedule_file.specs.Rows.{Rows}
 use Rattle.mips_table.specs.Device.{Environment}
 use Rattle.mips_table.specs.Machine.{State}
 use Rattle.mips_table.specs.Turns.{lines_of_turn, is_end, end_within, TurnLaws}
-use Rattle.boot_turns.specs.Headline.{OutOfSteps, ending, ending_of}
+use Rattle.boot_run.specs.RunCalls.{end_by}
+use Rattle.run_scripts.specs.RunStatus.{status_of_end}
+use Rattle.run_scripts.specs.RanFrom.{ending}
 use Rattle.boot_turns.specs.GoesOn.{GoesOnWithin}
 use Rattle.c0_tree.specs.Tree.{CUnit}
 use Rattle.c0_types.specs.Front.{IsUnitOf}
@@ -15,7 +17,7 @@ use Rattle.cvm_model.specs.KernelMeaning.{kernel_meaning}
 use Rattle.cvm_model.specs.Cvm.{System, Cvm, Status as CvmStatus, Running, Halted, Faulted, cvm, IsCvm, first_cvm, map_of, reset_steps, turn_steps, enter_steps, leave_steps, run_steps}
 use Rattle.std.proofs.lemmas.Nat.{mul-le}
 use Rattle.cvm_model.specs.Text.{rows_text, boot_text, closing_text, report_text}
-use Rattle.cvm_model.specs.Invariant.{Dispatch, rows_of, dispatches_of, Known, HasEight, IsSafe, RunsAreLawful}
+use Rattle.cvm_model.specs.Invariant.{Dispatch, dispatch_rows, dispatches_of, Known, HasEight, IsSafe, RunsAreLawful}
 use Rattle.cvm_model.specs.Systems.{SystemProperty, status_after, lines_taken, IsSystemInvariant, SystemHolds, RunsAreChains}
 use Rattle.cvm_model.proofs.Systems.{systems_hold, ends_below, stays_over}
 use Rattle.run_bounds.specs.Steps.{steps_for, BoundsAreSmall}
@@ -28,7 +30,7 @@ use Rattle.run_scripts.specs.declared.session.Session.{Session}
 use Rattle.run_scripts.specs.Plan.{Accepts}
 use Rattle.real_layer.specs.Image.{layer_image}
 use Rattle.boot_image.specs.Reading.{answer as image_of}
-use Rattle.run_scripts.specs.Boot.{booted, around, first_state, steps_before, ended_as, AskFor, by_boot, by_trace, by_sample}
+use Rattle.run_scripts.specs.Boot.{booted, environment_of, start_state, steps_before, AskFor, by_boot, by_trace, by_sample}
 use Rattle.kernel_boots.specs.Boots.{TextOfState, StandsAt, turns_made, BootStands, AsksSource}
 use Rattle.kernel_boots.specs.Systems.{SystemEndsWithin, HasHalted, SystemShown, HasSystem, AsksSystem, SystemsBoot, BootsAreChains}
 use Rattle.kernel_boots.proofs.Room.{Roomy}
@@ -41,7 +43,7 @@ halted_of Running safe off = absurd (off refl)
 halted_of Halted safe off = refl
 halted_of (Faulted f) safe off = absurd safe
 
-rows_length : (past : List Dispatch) → length (rows_of past) ≡ length past
+rows_length : (past : List Dispatch) → length (dispatch_rows past) ≡ length past
 rows_length [] = refl
 rows_length (d ∷ past) = ap suc (rows_length past)
 
@@ -54,7 +56,7 @@ halted_text y c Halted e = refl
 halted_text y c Running e = absurd (cc)
 halted_text y c (Faulted f) e = absurd (cc)
 
-done_of : (b : Bool) (s : CvmStatus) → b ≡ true → s ≡ Halted → ended_as (if b then ending_of s else OutOfSteps) ≡ Done
+done_of : (b : Bool) (s : CvmStatus) → b ≡ true → s ≡ Halted → status_of_end (end_by b s) ≡ Done
 done_of true Halted e h = refl
 done_of true Running e h = absurd (cc)
 done_of true (Faulted f) e h = absurd (cc)
@@ -225,9 +227,9 @@ systems_boot law laws counts small takes rise source Is n Fit I inv words status
     let read = asked_read law source words old.shelf.file session s rows h.asked asks in
     let few : length rows.inputs ≤ 4096 = asked_few words old.shelf.file session s rows h.asked in
     let b : BootStands session s rows before status old new = boots_stand laws words status old new headlines session s rows before h some view in
-    let x = around rows old in
+    let x = environment_of rows old in
     let y = booted s rows in
-    let first = first_state session s rows before in
+    let first = start_state session s rows before in
     let eight : HasEight (lines_of_turn x first) = turns_have_eight x first (asked_eight words old.shelf.file session s rows h.asked old) in
     let i = inv s rows read.unit read.room is few in (
       b.text,
@@ -239,9 +241,9 @@ systems_boot law laws counts small takes rise source Is n Fit I inv words status
 pub boots_are_chains : RunsAreLawful → RunsAreChains → BootsAreChains
 boots_are_chains laws chains words status old new headlines session s rows before h some view =
     let b : BootStands session s rows before status old new = boots_stand laws words status old new headlines session s rows before h some view in
-    let x = around rows old in
+    let x = environment_of rows old in
     let y = booted s rows in
-    let first = first_state session s rows before in
+    let first = start_state session s rows before in
     let eight : HasEight (lines_of_turn x first) = turns_have_eight x first (asked_eight words old.shelf.file session s rows h.asked old) in
     record {
       shows = b;

@@ -9,7 +9,8 @@ use Rattle.mips_table.specs.Device.{Environment}
 use Rattle.mips_table.specs.Machine.{State}
 use Rattle.mips_table.specs.Turns.{complete, lines_of_turn, is_end, end_within}
 use Rattle.boot_turns.specs.declared.answers.View.TheVariants.{Boot}
-use Rattle.boot_turns.specs.Headline.{ending}
+use Rattle.run_scripts.specs.RunStatus.{status_of_end}
+use Rattle.run_scripts.specs.RanFrom.{ending}
 use Rattle.boot_turns.specs.TurnEnds.{TurnIsOver}
 use Rattle.c0_types.specs.Front.{IsUnitOf}
 use Rattle.cvm_model.specs.Cvm.{System, Cvm, IsCvm}
@@ -20,7 +21,7 @@ use Rattle.run_scripts.specs.declared.exit_status.Status.{Status}
 use Rattle.run_scripts.specs.declared.exit_status.Status.TheVariants.{KernelFault, StepLimit, Memory}
 use Rattle.run_scripts.specs.declared.session.Session.{Session}
 use Rattle.cvm_outside.specs.Outside.{Outside}
-use Rattle.run_scripts.specs.Boot.{booted, around, first_state, ended_as, SessionGoesOn, AskFor, by_boot, by_trace, by_sample, IsHonest}
+use Rattle.run_scripts.specs.Boot.{booted, environment_of, start_state, SessionGoesOn, AskFor, by_boot, by_trace, by_sample, IsHonest}
 use Rattle.run_scripts.specs.CommandEnds.{Headlines}
 
 -- a property of a state after so many turns with these lines
@@ -45,7 +46,7 @@ turns_made x s turns steps = complete x s (end_within x s turns steps)
 pub record StandsAt (x : Environment) (y : System) (s : State) (turns steps : ℕ) (status : Status) (text : List ℕ) : Type 0 where
   pub state : Cvm
   pub is : IsCvm y (lines_of_turn x s) (turns_made x s turns steps) state
-  pub status_is : status ≡ ended_as (ending x s turns steps state)
+  pub status_is : status ≡ status_of_end (ending x s turns steps state)
   pub text_is : TextOfState y status state text
   pub over : is_end x s turns (end_within x s turns steps) ≡ true → TurnIsOver x y s turns (end_within x s turns steps) state
 
@@ -56,10 +57,10 @@ pub record Shows (x : Environment) (y : System) (s : State) (turns steps : ℕ) 
 
 -- the run of a session
 abbrev pub SessionStands : Session → ImageSystem → Rows → (before : List (List ℕ)) → Outside → Status → List ℕ → Type 0
-SessionStands session s rows before old = StandsAt (around rows old) (booted s rows) (first_state session s rows before) session.turns session.steps
+SessionStands session s rows before old = StandsAt (environment_of rows old) (booted s rows) (start_state session s rows before) session.turns session.steps
 
 abbrev pub SessionShows : Session → ImageSystem → Rows → (before : List (List ℕ)) → Outside → OfStates → Status → List ℕ → Type 0
-SessionShows session s rows before old = Shows (around rows old) (booted s rows) (first_state session s rows before) session.turns session.steps
+SessionShows session s rows before old = Shows (environment_of rows old) (booted s rows) (start_state session s rows before) session.turns session.steps
 
 -- A BOOT STANDS SO: what it printed is the text of the state where its run stands; and the machine comes to the end of every turn of that run, within its bound
 pub record BootStands (session : Session) (s : ImageSystem) (rows : Rows) (before : List (List ℕ)) (status : Status) (old new : Outside) : Type 0 where

@@ -18,14 +18,14 @@ own_steps (Trapped cause edata ∷ rest) = suc (own_steps rest)
 own_steps (other ∷ rest) = own_steps rest
 
 -- the entry of a step
-abbrev pub entry_of : VStep → JournalEntry
-entry_of (Goes f) = Stepped
-entry_of (Trap f cause edata) = Trapped (cause_number cause) edata
+abbrev pub step_entry : VStep → JournalEntry
+step_entry (Goes f) = Stepped
+step_entry (Trap f cause edata) = Trapped (cause_number cause) edata
 
 -- the journal of so many steps of a machine by itself
 abbrev pub own_journal : ℕ → Flat → List JournalEntry
 own_journal zero f = []
-own_journal (suc n) f = entry_of (vstep f) ∷ own_journal n (machine_after (vstep f))
+own_journal (suc n) f = step_entry (vstep f) ∷ own_journal n (machine_after (vstep f))
 
 -- A LAW: over a kernel that leaves user u alone, whatever the other users and the lines are, its machine is `after` its own steps, and its journal that of them
 pub record OwnRun (y : System) (lines : ℕ → ℕ) (n k u : ℕ) (c : Cvm) : Type 0 where

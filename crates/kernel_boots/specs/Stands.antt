@@ -14,28 +14,27 @@ use Rattle.cvm_model.specs.Invariant.{HasEight}
 use Rattle.cvm_model.specs.Journal.{journal, replay}
 use Rattle.cvm_model.specs.Text.{rows_text, start_row, open_journal_rows, trace_text}
 use Rattle.boot_turns.specs.declared.answers.View.TheVariants as view
-use Rattle.boot_turns.specs.Headline.{ending}
+use Rattle.run_scripts.specs.RunStatus.{status_of_end}
+use Rattle.run_scripts.specs.RanFrom.{ending}
 use Rattle.boot_turns.specs.Trace.{entries_so_far}
-use Rattle.boot_turns.specs.TurnEnds.{first_of, TurnIsOver, Stood}
+use Rattle.boot_turns.specs.TurnEnds.{first_user_machine, TurnIsOver, Stood}
 use Rattle.kernel_linker.specs.Accept.{ImageSystem}
 use Rattle.run_scripts.specs.declared.exit_status.Status.{Status}
 use Rattle.run_scripts.specs.declared.exit_status.Status.TheVariants.{Done, StepLimit, Memory}
 use Rattle.run_scripts.specs.declared.session.Session.{Session}
 use Rattle.run_scripts.specs.Command.{Save, save_session}
 use Rattle.cvm_outside.specs.Outside.{Outside}
-use Rattle.run_scripts.specs.Boot.{booted, around, first_state, ended_as, SessionGoesOn, IsHonest}
+use Rattle.run_scripts.specs.Boot.{booted, environment_of, start_state, SessionGoesOn, IsHonest}
 use Rattle.run_scripts.specs.CommandEnds.{Headlines, Isolates}
-use Rattle.run_scripts.specs.Saves.{saved_row, IsHonestSave, Saves}
+use Rattle.run_scripts.specs.Isolation.{session_lines}
+use Rattle.run_scripts.specs.Saves.{IsHonestSave, Saves}
 use Rattle.run_scripts.specs.Resumes.{IsHonestResume, IsSavedRun, Resumes}
 use Rattle.kernel_boots.specs.Boots.{turns_made, SessionStands, BootStands}
-
--- the lines that the machine of a session's run met
-abbrev pub lines_met : Session → ImageSystem → Rows → (before : List (List ℕ)) → Outside → ℕ → ℕ
-lines_met session s rows before old = lines_of_turn (around rows old) (first_state session s rows before)
+use Rattle.boot_run.specs.RunScript.{saved_row}
 
 -- what the turn that goes on at step t has done to user u so far: nothing where all turns that began are complete
-abbrev pub under_way : Environment → System → State → (units u t : ℕ) → List JournalEntry
-under_way x y s units u t = if nat_lt (complete x s t) (turn_of x s t) then entries_so_far x s y units u t else []
+abbrev pub entries_under_way : Environment → System → State → (units u t : ℕ) → List JournalEntry
+entries_under_way x y s units u t = if nat_lt (complete x s t) (turn_of x s t) then entries_so_far x s y units u t else []
 
 -- THE TEXT OF A TRACE, by the status: where the steps ran out the rows of its journal over the complete turns and of what the turn under way has done, else
 -- the whole trace, whose last machine and status are those of the state
@@ -49,10 +48,10 @@ pub record TraceStandsAt (x : Environment) (y : System) (s : State) (turns steps
   pub state : Cvm
   pub units : ℕ
   pub run : cvm y (lines_of_turn x s) units (turns_made x s turns steps) ≡ Some state
-  pub status_is : status ≡ ended_as (ending x s turns steps state)
-  pub replayed : replay (first_of y u) (journal y (lines_of_turn x s) units u (turns_made x s turns steps)) ≡ Some (user_of state.core.users u)
-  pub text_is : TraceTextOf u (first_of y u) (journal y (lines_of_turn x s) units u (turns_made x s turns steps))
-      (under_way x y s units u (end_within x s turns steps)) status state text
+  pub status_is : status ≡ status_of_end (ending x s turns steps state)
+  pub replayed : replay (first_user_machine y u) (journal y (lines_of_turn x s) units u (turns_made x s turns steps)) ≡ Some (user_of state.core.users u)
+  pub text_is : TraceTextOf u (first_user_machine y u) (journal y (lines_of_turn x s) units u (turns_made x s turns steps))
+      (entries_under_way x y s units u (end_within x s turns steps)) status state text
   pub over : is_end x s turns (end_within x s turns steps) ≡ true → TurnIsOver x y s turns (end_within x s turns steps) state
 
 -- A TRACE STANDS SO: what it printed is the text of the state where its run stands
@@ -60,8 +59,8 @@ pub record TraceStands (session : Session) (u : ℕ) (s : ImageSystem) (rows : R
     Type 0 where
   pub text : List ℕ
   pub printed : new.sink.text ≡ append_known old.sink.text text
-  pub stands : TraceStandsAt (around rows old) (booted s rows) (first_state session s rows before) session.turns session.steps u status text
-  pub eight : HasEight (lines_met session s rows before old)
+  pub stands : TraceStandsAt (environment_of rows old) (booted s rows) (start_state session s rows before) session.turns session.steps u status text
+  pub eight : HasEight (session_lines session s rows old before)
   pub goes_on : SessionGoesOn session old s rows before
 
 -- a law: so does each trace with no failed call, by `headlines_hold` and `traces_are_isolated` of run_scripts
@@ -74,19 +73,19 @@ TracesStand = (words : List (List ℕ)) (status : Status) (old new : Outside) �
 -- printed are its rows and `saved`
 pub record SavedStands (c : Save) (s : ImageSystem) (rows : Rows) (before : List (List ℕ)) (old new : Outside) : Type 0 where
   pub state : Cvm
-  pub is : IsCvm (booted s rows) (lines_met (save_session c) s rows before old) c.boot.turns state
+  pub is : IsCvm (booted s rows) (session_lines (save_session c) s rows old before) c.boot.turns state
   pub running : state.status ≡ Running
   pub at : ℕ
   pub within : at ≤ c.boot.steps
-  pub first : IsTurnEnd (around rows old) (first_state (save_session c) s rows before) c.boot.turns at
-  pub stood : Stood (around rows old) (booted s rows) (first_state (save_session c) s rows before) c.boot.turns at state
-  pub on : (run (around rows old) (first_state (save_session c) s rows before) at).off ≡ None
+  pub first : IsTurnEnd (environment_of rows old) (start_state (save_session c) s rows before) c.boot.turns at
+  pub stood : Stood (environment_of rows old) (booted s rows) (start_state (save_session c) s rows before) c.boot.turns at state
+  pub on : (run (environment_of rows old) (start_state (save_session c) s rows before) at).off ≡ None
   pub printed : new.sink.text ≡ append_known old.sink.text (rows_text state.rows ++ saved_row)
 
 -- A SAVE STANDS SO: as a boot, or where its run was saved
 pub record SaveStands (c : Save) (s : ImageSystem) (rows : Rows) (before : List (List ℕ)) (status : Status) (old new : Outside) : Type 0 where
   pub shows : BootStands (save_session c) s rows before status old new ⊎ ((status ≡ Done) × SavedStands c s rows before old new)
-  pub eight : HasEight (lines_met (save_session c) s rows before old)
+  pub eight : HasEight (session_lines (save_session c) s rows old before)
 
 -- a law: so does each save with no failed call, by `saves_are_held`
 abbrev pub SavesStand : Type 0
@@ -101,7 +100,7 @@ pub record ResumeStands (c : Save) (s : ImageSystem) (rows : Rows) (before : Lis
   pub text : List ℕ
   pub printed : new.sink.text ≡ append_known old.sink.text text
   pub stands : SessionStands (save_session c) s rows before old status (shown ++ text)
-  pub eight : HasEight (lines_met (save_session c) s rows before old)
+  pub eight : HasEight (session_lines (save_session c) s rows old before)
   pub goes_on : SessionGoesOn (save_session c) old s rows before
 
 -- a law: so does each resume of a saved run, with no failed call, by `resumes_are_held`

@@ -20,7 +20,7 @@ use Rattle.run_scripts.specs.declared.exit_status.Status.{Status}
 use Rattle.run_scripts.specs.declared.exit_status.Status.TheVariants.{Done, KernelFault, Memory}
 use Rattle.run_scripts.specs.declared.session.Session.{Session}
 use Rattle.cvm_outside.specs.Outside.{Outside}
-use Rattle.run_scripts.specs.Boot.{booted, around, first_state, steps_before, AskFor, by_boot, by_trace, by_sample, IsHonest}
+use Rattle.run_scripts.specs.Boot.{booted, environment_of, start_state, steps_before, AskFor, by_boot, by_trace, by_sample, IsHonest}
 use Rattle.run_scripts.specs.CommandEnds.{Headlines}
 use Rattle.kernel_boots.specs.Boots.{StandsAt, turns_made, BootStands, AsksSource}
 
@@ -69,7 +69,7 @@ SystemsBoot source Is n Fit I = (words : List (List ℕ)) (status : Status) (old
     → (session : Session) (s : ImageSystem) (rows : Rows) (before : List (List ℕ)) → (h : IsHonest words session s rows before old new)
     → status ≢ Memory → session.view ≡ Boot → AsksSource source h.asked → Is s
     → (text : List ℕ) × (new.sink.text ≡ append_known old.sink.text text)
-    × SystemShown (around rows old) (booted s rows) (first_state session s rows before) (steps_before session.start (booted s rows)) (length rows.lines)
+    × SystemShown (environment_of rows old) (booted s rows) (start_state session s rows before) (steps_before session.start (booted s rows)) (length rows.lines)
     session.turns session.steps n (Fit (booted s rows)) (I (booted s rows)) status text
 
 -- THE DISPATCHES OF A BOOT, whatever its kernel and its users are: the state where its run stands is reached by a chain of them, of which it printed the rows.
@@ -77,9 +77,9 @@ SystemsBoot source Is n Fit I = (words : List (List ℕ)) (status : Status) (old
 pub record BootIsChain (session : Session) (s : ImageSystem) (rows : Rows) (before : List (List ℕ)) (status : Status) (old new : Outside) : Type 0 where
   pub shows : BootStands session s rows before status old new
   pub units : ℕ
-  pub chain : (k : ℕ) → turns_made (around rows old) (first_state session s rows before) session.turns session.steps ≡ suc k →
+  pub chain : (k : ℕ) → turns_made (environment_of rows old) (start_state session s rows before) session.turns session.steps ≡ suc k →
       let y = booted s rows in
-      let lines = lines_of_turn (around rows old) (first_state session s rows before) in
+      let lines = lines_of_turn (environment_of rows old) (start_state session s rows before) in
       SystemHolds (HasUsers y) (λ k past c. Chain y units 0 (first_core y) past k c) (suc k) (dispatches_of y lines units (suc k)) shows.stands.state
 
 -- a law: so it is of each boot with no failed call

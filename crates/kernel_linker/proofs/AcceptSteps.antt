@@ -3,7 +3,7 @@ use Rattle.std.proofs.Common.{ℕ, ◌≡◌, ◌≤◌, ◌*◌, ◌+◌, ◌/�
 use Rattle.std.specs.List.{All}
 use Rattle.layer_map.specs.Map.{Map, ParamsInRange}
 use Rattle.layer_map.specs.declared.params.Params.{Params}
-use Rattle.boot_image.specs.Format.{HasSpelling, IsBare, IsSystem, bare_params, most_words}
+use Rattle.boot_image.specs.Format.{HasSpelling, IsBare, IsSystem, bare_params, most_user_words}
 use Rattle.boot_image.specs.Parts.{ImageParts as Image}
 use Rattle.boot_image.specs.declared.fault.ImageFault.{ImageFault}
 use Rattle.boot_image.specs.declared.fault.ImageFault.TheVariants.{Memory as NoImageMemory}
@@ -75,10 +75,10 @@ spelled_params i h = elim h.form [ inl b ↦ subst ParamsInRange (sym b.params) 
 pub spelled_users : (i : Image) → HasSpelling i → length i.users ≤ 64
 spelled_users i h = elim h.form [ inl b ↦ let none : length i.users ≡ 0 = ap length b.users in omega arith | inr s ↦ s.users ]
 
-pub spelled_sizes : (i : Image) (p : Params) (users : List (List ℕ)) → HasSpelling i → i.params ≡ p → i.users ≡ users → All (λ u. length u ≤ most_words p.pages) users
+pub spelled_sizes : (i : Image) (p : Params) (users : List (List ℕ)) → HasSpelling i → i.params ≡ p → i.users ≡ users → All (λ u. length u ≤ most_user_words p.pages) users
 spelled_sizes i p users h e k =
-    subst (λ (q : Params). All (λ u. length u ≤ most_words q.pages) users) e
-    (subst (λ (us : List (List ℕ)). All (λ u. length u ≤ most_words i.params.pages) us) k (elim (h.form) [
+    subst (λ (q : Params). All (λ u. length u ≤ most_user_words q.pages) users) e
+    (subst (λ (us : List (List ℕ)). All (λ u. length u ≤ most_user_words i.params.pages) us) k (elim (h.form) [
       | inl b ↦ λ n d below. let none : length i.users ≡ 0 = ap length b.users in absurd (omega arith)
       | inr s ↦ s.sizes
     ]))

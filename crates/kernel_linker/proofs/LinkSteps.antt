@@ -4,7 +4,7 @@ use Rattle.std.proofs.lemmas.Bool.Decides.{nat_tests}
 use Rattle.std.specs.List.{All}
 use Rattle.layer_map.specs.declared.params.Params.{Params}
 use Rattle.layer_map.specs.Map.{Map, ParamsInRange}
-use Rattle.boot_image.specs.Format.{HasSpelling, most_words}
+use Rattle.boot_image.specs.Format.{HasSpelling, most_user_words}
 use Rattle.c0_parser.specs.declared.fault.ReadFault.TheVariants.{Memory as NoMemory}
 use Rattle.c0_types.specs.declared.source_fault.SourceFault.TheVariants.{Reading}
 use Rattle.kernel_linker.specs.Answers.{FrontGives}
@@ -50,7 +50,7 @@ made view layer o p users v s w us x fits (front, comes, a) es ew eu = (front, c
 
 -- what is made can be written
 pub written : (p : Params) (s source w : List ℕ) (us users : List (List ℕ)) → length source ≤ 1048576 → s ≡ source → ParamsInRange p → 16384 ≤ length w → length w ≤ 4194304 →
-    length users ≤ 64 → All (λ u. length u ≤ most_words p.pages) users → us ≡ users → HasSpelling (record { params = p; form = 3; source = s; words = w; users = us })
+    length users ≤ 64 → All (λ u. length u ≤ most_user_words p.pages) users → us ≡ users → HasSpelling (record { params = p; form = 3; source = s; words = w; users = us })
 written p s source w us users short es params least most few sizes eu =
     rw (es, eu) (record { source = short; form = inr (record { form = refl; params = params; least = least; most = most; users = few; sizes = sizes }) })
 

@@ -16,7 +16,7 @@ use Rattle.kernel_linker.specs.Open.{unforged, open_answer}
 use Rattle.kernel_linker.specs.Link.{fitting, link_answer}
 use Rattle.kernel_linker.specs.Accept.{accept_answer}
 use Rattle.kernel_linker.specs.Laws.{IsAccepted, OpenedUnitsAreTheirSources}
-use Rattle.kernel_linker.proofs.Comparing.{same_all}
+use Rattle.kernel_linker.proofs.SameWords.{same_all}
 
 -- what is opened is the unit that the front came to
 last : (c : Result (Unit {0}) Difference) (v u : CUnit) → (unforged c >>= λ same. Ok v) ≡ Ok u → v ≡ u

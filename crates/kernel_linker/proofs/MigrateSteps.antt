@@ -3,7 +3,7 @@ use Rattle.std.proofs.Common.{ℕ, ◌≡◌, ◌≤◌, List, length, Result, O
 use Rattle.std.specs.List.{All}
 use Rattle.layer_map.specs.Map.{Map, ParamsInRange}
 use Rattle.layer_map.specs.declared.params.Params.{Params}
-use Rattle.boot_image.specs.Format.{HasSpelling, IsOldInRange, most_words}
+use Rattle.boot_image.specs.Format.{HasSpelling, IsOldInRange, most_user_words}
 use Rattle.boot_image.specs.Parts.{ImageParts as Image}
 use Rattle.boot_image.specs.declared.fault.ImageFault.{ImageFault}
 use Rattle.boot_image.specs.declared.fault.ImageFault.TheVariants.{Memory as NoImageMemory}
@@ -13,11 +13,11 @@ use Rattle.c0_types.specs.declared.source_fault.SourceFault.{SourceFault}
 use Rattle.kernel_linker.specs.Linked.{linked, sizes_of}
 use Rattle.kernel_linker.specs.Fault.{accept_source_fault}
 use Rattle.cvm_words.specs.Reading.{◌>>=◌, GivesOkUnless}
-use Rattle.kernel_linker.specs.Accept.{unit_in, accept_answer}
+use Rattle.kernel_linker.specs.Accept.{front_unit, accept_answer}
 use Rattle.kernel_linker.specs.Migrate.{migrate_answer, Migrates, IsAcceptedAnew}
 use Rattle.kernel_linker.specs.declared.fault.AcceptFault.{AcceptFault}
 use Rattle.kernel_linker.proofs.AcceptSteps.{of_image}
-use Rattle.kernel_linker.proofs.Comparing.{same_all}
+use Rattle.kernel_linker.proofs.SameWords.{same_all}
 
 -- a fault of the source is what is answered
 pub source_stops : (layer : Map → List ℕ → List ℕ) (i : Image) (f : SourceFault) → migrate_answer layer i (Err f) ≡ Err (accept_source_fault f)
@@ -52,7 +52,7 @@ written_anew layer old new u h is least most =
         least = least;
         most = most;
         users = subst (λ (us : List (List ℕ)). length us ≤ 64) (sym (ap (λ (i : Image). i.users) is)) (let few = h.spelled.system.users in omega arith);
-        sizes = subst (λ (i : Image). All (λ u. length u ≤ most_words i.params.pages) i.users) (sym is) h.spelled.system.sizes;
+        sizes = subst (λ (i : Image). All (λ u. length u ≤ most_user_words i.params.pages) i.users) (sym is) h.spelled.system.sizes;
       });
     }
 

@@ -26,13 +26,13 @@ pub record ImageSystem : Type 0 where
   pub users : List (List ℕ)
 
 -- a boot as lists
-abbrev pub system_of : Boot → ImageSystem
-system_of b = record { params = b.params; unit = unit_view b.unit; words = b.words.items; users = map (λ u. u.items) b.users.items }
+abbrev pub image_system : Boot → ImageSystem
+image_system b = record { params = b.params; unit = unit_view b.unit; words = b.words.items; users = map (λ u. u.items) b.users.items }
 
 -- the unit that the front came to
-abbrev pub unit_in : Result CUnit SourceFault → Result CUnit AcceptFault
-unit_in (Ok u) = Ok u
-unit_in (Err f) = Err (accept_source_fault f)
+abbrev pub front_unit : Result CUnit SourceFault → Result CUnit AcceptFault
+front_unit (Ok u) = Ok u
+front_unit (Err f) = Err (accept_source_fault f)
 
 -- words are those that are made
 abbrev pub unforged : Result (Unit {0}) Difference → Result (Unit {0}) AcceptFault
@@ -46,7 +46,7 @@ words_match i made = if nat_eq i.form 1 then Ok tt else unforged (compared i.wor
 -- ACCEPT, over a layer that has these words for a map and sizes, where the front came to this on the image's source
 unfoldable pub accept_answer : (layer : Map → List ℕ → List ℕ) → Image → Result CUnit SourceFault → Result ImageSystem AcceptFault
 accept_answer layer i front = do
-  u ← unit_in front
+  u ← front_unit front
   same ← words_match i (linked layer u i.params (sizes_of i.users))
   Ok (record { params = i.params; unit = u; words = linked layer u i.params (sizes_of i.users); users = i.users })
 

@@ -2,7 +2,7 @@
 use Rattle.std.specs.Prelude.{◌≡◌, ◌≤◌, ℕ, All, List, Result, Ok, length}
 use Rattle.layer_map.specs.declared.params.Params.{Params}
 use Rattle.layer_map.specs.Map.{Map, ParamsInRange}
-use Rattle.boot_image.specs.Format.{HasSpelling, most_words}
+use Rattle.boot_image.specs.Format.{HasSpelling, most_user_words}
 use Rattle.boot_image.specs.Parts.{ImageParts as Image}
 use Rattle.object_file.specs.Parts.{ObjectParts as Object}
 use Rattle.c0_tree.specs.Tree.{CUnit}
@@ -29,7 +29,7 @@ LinkedAreAccepted = (layer : Map → List ℕ → List ℕ) (o : Object) (p : Pa
 pub record ImageFits (i : Image) : Type 0 where
   pub params : ParamsInRange i.params
   pub few : length i.users ≤ 64
-  pub short : All (λ words. length words ≤ most_words i.params.pages) i.users
+  pub short : All (λ words. length words ≤ most_user_words i.params.pages) i.users
 
 -- a law: an image that has a spelling is of such
 abbrev pub SpelledImagesFit : Type 0

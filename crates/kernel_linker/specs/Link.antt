@@ -5,7 +5,7 @@ use Rattle.std.specs.Prelude.{ℕ, suc, ◌||◌, nat_lt, List, [], ◌∷◌, l
 use Rattle.cvm_words.specs.Reading.{◌>>=◌, GivesUnless}
 use Rattle.layer_map.specs.declared.params.Params.{Params}
 use Rattle.layer_map.specs.Map.{Map}
-use Rattle.boot_image.specs.Format.{most_words}
+use Rattle.boot_image.specs.Format.{most_user_words}
 use Rattle.boot_image.specs.Parts.{ImageParts as Image}
 use Rattle.object_file.specs.Parts.{ObjectParts as Object}
 use Rattle.c0_tree.specs.Tree.{CUnit}
@@ -41,7 +41,7 @@ in_range p = do
 unfoldable pub fitting : Params → List (List ℕ) → Result (Unit {0}) LinkFault
 fitting p users = do
   few ← users_counted users
-  short ← measured (most_words p.pages) 1 users
+  short ← measured (most_user_words p.pages) 1 users
   in_range p
 
 -- LINK, over a layer that has these words for a map and sizes, where the front came to this on the object's source

@@ -4,7 +4,7 @@ ghost use Rattle.std.specs.Prelude.{◌≡◌, ◌+◌, ◌≤◌, All, length, 
 ghost use Rattle.boot_image.specs.Reading.{answer};
 ghost use Rattle.c0_tree.specs.View.{unit_view};
 ghost use Rattle.kernel_linker.specs.Linked.{map_for, sizes_of};
-ghost use Rattle.kernel_linker.specs.Accept.{AcceptAnswers, words_match, system_of};
+ghost use Rattle.kernel_linker.specs.Accept.{AcceptAnswers, words_match, image_system};
 
 use crate::difference::compare;
 use crate::fault::AcceptFault;
@@ -41,7 +41,7 @@ fn check_words(image: &Image, made: &[u32]) -> Result<(), AcceptFault>
 /// they are made.
 pub fn accept<M: LayerMaker>(alloc: Global, bytes: &[u8]) -> Result<Accepted<M>, AcceptFault>
     // The answer that is due for the image that the bytes are, or want of memory.
-    ensures is { AcceptAnswers M.made (λ a. system_of a.boot) (answer bytes.now) result }
+    ensures is { AcceptAnswers M.made (λ a. image_system a.boot) (answer bytes.now) result }
     // The layer is the one that is made for the boot's map and for its users' sizes.
     ensures map { IfOk result (λ a. M.map a.layer ≡ map_for (unit_view a.boot.unit) a.boot.params (length a.boot.users.items)) }
     ensures sizes { IfOk result (λ a. M.sizes a.layer ≡ sizes_of (map (λ u. u.items) a.boot.users.items)) }

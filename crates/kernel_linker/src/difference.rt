@@ -7,9 +7,16 @@ ghost use Rattle.kernel_linker.specs.Difference.{compared, words_compared};
 #[derive(Clone, Copy, Debug, PartialEq, Eq)]
 pub enum Difference {
     /// There are as many words stored, and others are made.
-    Count { stored: u64, made: u64 },
-    /// The first word that differs, by its place from 0.
-    Word { place: u64, stored: u32, made: u32 },
+    Count {
+        stored: u64,
+        made: u64,
+    },
+    /// The first word that differs, by its position from 0.
+    Word {
+        position: u64,
+        stored: u32,
+        made: u32,
+    },
 }
 
 // Looks for the first word that differs.
@@ -17,12 +24,12 @@ fn compare_words(stored: &[u32], made: &[u32]) -> Result<(), Difference>
     requires { length stored.now ≡ length made.now }
     ensures { result ≡ words_compared 0 stored.now made.now }
 {
-    for place in 0..stored.len() {
-        if stored[place] != made[place] {
+    for position in 0..stored.len() {
+        if stored[position] != made[position] {
             return Err(Difference::Word {
-                place: place as u64,
-                stored: stored[place],
-                made: made[place],
+                position: position as u64,
+                stored: stored[position],
+                made: made[position],
             });
         }
     }

@@ -2,7 +2,7 @@
 
 ghost use Rattle.std.specs.Prelude.{◌≡◌, ◌≤◌, ◌∷◌, [], ◌++◌, length};
 ghost use Rattle.kernel_linker.specs.Fault.{accept_difference, accept_fault_fields, accept_fault_number, accept_file_fault, accept_source_fault};
-ghost use Rattle.kernel_linker.specs.Fault.{field, image_fields, link_difference, link_fault_fields, link_fault_number, link_source_fault};
+ghost use Rattle.kernel_linker.specs.Fault.{field_number, image_fields, link_difference, link_fault_fields, link_fault_number, link_source_fault};
 ghost use Rattle.kernel_linker.specs.Fault.{read_fields, span_fields, type_fields};
 ghost use Rattle.kernel_linker.specs.declared.fault.LinkFault.TheVariants as link;
 ghost use Rattle.kernel_linker.specs.declared.fault.AcceptFault.TheVariants as accept;
@@ -21,13 +21,21 @@ use thiserror::Error;
 pub enum LinkFault {
     /// There are more than 64 users.
     #[error("{users} users, more than 64")]
-    UserCount { users: u64 },
+    UserCount {
+        users: u64,
+    },
     /// A user has more than 65,536 words, or more than the pages of the parameters have.
     #[error("user {user} has {words} words, more than fit")]
-    UserTooLong { user: u64, words: u64 },
+    UserTooLong {
+        user: u64,
+        words: u64,
+    },
     /// A parameter is out of its range: 1 the pages, 2 the frames, 3 the heap, 4 the stack.
     #[error("parameter {which} is {value}, which is out of range")]
-    Parameter { which: u32, value: u64 },
+    Parameter {
+        which: u32,
+        value: u64,
+    },
     /// The object's source has no tree. Want of memory is no such fault.
     #[error("the object's source: {0}")]
     ObjectSource(ReadFault),
@@ -36,10 +44,17 @@ pub enum LinkFault {
     ObjectTypes(TypeFault),
     /// The object has another number of words than its source is compiled to.
     #[error("the object has {stored} words, and its source is compiled to {made}")]
-    ObjectForgedCount { stored: u64, made: u64 },
+    ObjectForgedCount {
+        stored: u64,
+        made: u64,
+    },
     /// The first word of the object that differs from what its source is compiled to.
-    #[error("word {place} of the object is {stored}, and its source is compiled to {made}")]
-    ObjectForged { place: u64, stored: u32, made: u32 },
+    #[error("word {position} of the object is {stored}, and its source is compiled to {made}")]
+    ObjectForged {
+        position: u64,
+        stored: u32,
+        made: u32,
+    },
     /// Want of memory.
     #[error("out of memory")]
     Memory,
@@ -59,10 +74,17 @@ pub enum AcceptFault {
     Types(TypeFault),
     /// The image has another number of linked words than its source, parameters and users are linked to.
     #[error("the image has {stored} linked words, and {made} are made")]
-    ForgedCount { stored: u64, made: u64 },
+    ForgedCount {
+        stored: u64,
+        made: u64,
+    },
     /// The first linked word that differs from what the source, the parameters and the users are linked to.
-    #[error("linked word {place} of the image is {stored}, and {made} is made")]
-    Forged { place: u64, stored: u32, made: u32 },
+    #[error("linked word {position} of the image is {stored}, and {made} is made")]
+    Forged {
+        position: u64,
+        stored: u32,
+        made: u32,
+    },
     /// Want of memory.
     #[error("out of memory")]
     Memory,
@@ -71,7 +93,7 @@ pub enum AcceptFault {
 // Adds a number, if there is one.
 fn put(fields: &mut ArrayVec<u64, 4>, number: Option<u64>)
     requires { length fields.old.items ≤ 3 }
-    ensures { fields.new.items ≡ fields.old.items ++ field number }
+    ensures { fields.new.items ≡ fields.old.items ++ field_number number }
 {
     if let Some(number) = number {
         fields.push(number);
@@ -175,10 +197,10 @@ impl LinkFault {
             LinkFault::UserTooLong { user, words } => two(*user, *words),
             LinkFault::Parameter { which, value } => two(u64::from(*which), *value),
             LinkFault::ObjectForged {
-                place,
+                position,
                 stored,
                 made,
-            } => three(*place, u64::from(*stored), u64::from(*made)),
+            } => three(*position, u64::from(*stored), u64::from(*made)),
             LinkFault::Memory => ArrayVec::new(),
             LinkFault::ObjectForgedCount { stored, made } => two(*stored, *made),
             LinkFault::ObjectSource(fault) => fields_of_reading(*fault),
@@ -211,10 +233,10 @@ impl AcceptFault {
             AcceptFault::Source(fault) => fields_of_reading(*fault),
             AcceptFault::Types(fault) => fields_of_typing(*fault),
             AcceptFault::Forged {
-                place,
+                position,
                 stored,
                 made,
-            } => three(*place, u64::from(*stored), u64::from(*made)),
+            } => three(*position, u64::from(*stored), u64::from(*made)),
             AcceptFault::Memory => ArrayVec::new(),
             AcceptFault::ForgedCount { stored, made } => two(*stored, *made),
         }
@@ -249,11 +271,11 @@ impl From<Difference> for LinkFault {
         match difference {
             Difference::Count { stored, made } => LinkFault::ObjectForgedCount { stored, made },
             Difference::Word {
-                place,
+                position,
                 stored,
                 made,
             } => LinkFault::ObjectForged {
-                place,
+                position,
                 stored,
                 made,
             },
@@ -300,11 +322,11 @@ impl From<Difference> for AcceptFault {
         match difference {
             Difference::Count { stored, made } => AcceptFault::ForgedCount { stored, made },
             Difference::Word {
-                place,
+                position,
                 stored,
                 made,
             } => AcceptFault::Forged {
-                place,
+                position,
                 stored,
                 made,
             },

@@ -2,7 +2,7 @@
 
 ghost use Rattle.std.specs.Prelude.{◌≡◌, ◌+◌, ◌*◌, ◌/◌, ◌≤◌, All, length, map, IfOk, OnOk};
 ghost use Rattle.layer_map.specs.Map.{MapInRange, ParamsInRange};
-ghost use Rattle.boot_image.specs.Format.{most_words};
+ghost use Rattle.boot_image.specs.Format.{most_user_words};
 ghost use Rattle.c0_tree.specs.View.{unit_view};
 ghost use Rattle.c0_unit.specs.Code.{unit_words};
 ghost use Rattle.kernel_linker.specs.Linked.{linked, map_for, pages_for, sizes_of};
@@ -71,7 +71,7 @@ pub fn link_words<M: LayerMaker>(
     requires most { length code.now ≤ 4177920 }
     requires params { ParamsInRange params.now }
     requires few { length users.now ≤ 64 }
-    requires short { All (λ u. length u ≤ most_words params.now.pages) (map (λ u. u.items) users.now) }
+    requires short { All (λ u. length u ≤ most_user_words params.now.pages) (map (λ u. u.items) users.now) }
     ensures words { IfOk result (λ j. j.words.items ≡ linked M.made (unit_view unit.now) params.now (sizes_of (map (λ u. u.items) users.now))) }
     ensures map { IfOk result (λ j. M.map j.layer ≡ map_for (unit_view unit.now) params.now (length users.now)) }
     ensures sizes { IfOk result (λ j. M.sizes j.layer ≡ sizes_of (map (λ u. u.items) users.now)) }

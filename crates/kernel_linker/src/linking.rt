@@ -2,7 +2,7 @@
 
 ghost use Rattle.std.specs.Prelude.{◌≡◌, ◌+◌, ◌≤◌, All, length, map, Err, IfOk};
 ghost use Rattle.layer_map.specs.Map.{ParamsInRange};
-ghost use Rattle.boot_image.specs.Format.{HasSpelling, most_words};
+ghost use Rattle.boot_image.specs.Format.{HasSpelling, most_user_words};
 ghost use Rattle.kernel_linker.specs.Link.{LinksBy, users_counted, fitting, in_range, measured, ranged};
 ghost use Rattle.kernel_linker.specs.declared.fault.LinkFault.{LinkFault};
 
@@ -81,7 +81,7 @@ fn fit(params: &Params, users: &[Vec<u32>]) -> Result<(), LinkFault>
     ensures is { result ≡ fitting params.now (map (λ u. u.items) users.now) }
     ensures params { IfOk result (λ x. ParamsInRange params.now) }
     ensures few { IfOk result (λ x. length users.now ≤ 64) }
-    ensures short { IfOk result (λ x. All (λ u. length u ≤ most_words params.now.pages) (map (λ u. u.items) users.now)) }
+    ensures short { IfOk result (λ x. All (λ u. length u ≤ most_user_words params.now.pages) (map (λ u. u.items) users.now)) }
 {
     count(users)?;
     let most = 65536_usize.min(1024 * params.pages as usize);

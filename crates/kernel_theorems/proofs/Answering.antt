@@ -17,14 +17,14 @@ use Rattle.cvm_model.specs.Cvm.{System, next_of}
 use Rattle.cvm_model.specs.declared.kernel_fault.KernelFault.TheVariants.{BadUser}
 use Rattle.cvm_model.specs.declared.row.Next.{Next}
 use Rattle.cvm_model.specs.declared.row.Next.TheVariants.{User, Halt, Fault}
-use Rattle.cvm_model.specs.Invariant.{Property, Dispatch, row_of, rows_of, IsProper, current_after, Keeps, KeptAt}
+use Rattle.cvm_model.specs.Invariant.{Property, Dispatch, dispatch_row, dispatch_rows, IsProper, current_after, Keeps, KeptAt}
 use Rattle.cvm_model.proofs.KeepsDispatch.{keeps_by}
 use Rattle.kernel_theorems.specs.History.{OfDispatch, EachHas}
 
 -- the rows of a history with one dispatch more: for a property that speaks of rows
-pub rows_join : (a : List Dispatch) (d : Dispatch) → rows_of (a ++ d ∷ []) ≡ rows_of a ++ row_of d ∷ []
+pub rows_join : (a : List Dispatch) (d : Dispatch) → dispatch_rows (a ++ d ∷ []) ≡ dispatch_rows a ++ dispatch_row d ∷ []
 rows_join [] d = refl
-rows_join (e ∷ a) d = ap (λ rows. row_of e ∷ rows) (rows_join a d)
+rows_join (e ∷ a) d = ap (λ rows. dispatch_row e ∷ rows) (rows_join a d)
 
 -- what each dispatch of a history has, with one dispatch more: for a property that says something of each
 pub each_more : (P : OfDispatch) (a past : List Dispatch) (d : Dispatch) → EachHas P a past → P (a ++ past) d → EachHas P a (past ++ d ∷ [])

@@ -10,7 +10,7 @@ use Rattle.cvm_model.specs.Primitives.{user_of, no_flat}
 use Rattle.cvm_model.specs.Stands.{IsUser}
 use Rattle.cvm_model.specs.Cvm.{System}
 use Rattle.cvm_model.specs.Invariant.{Dispatch, Shaped, UserShaped}
-use Rattle.kernel_theorems.specs.Registers.{int_held, calls, set_in, SetsAreFound}
+use Rattle.kernel_theorems.specs.Registers.{int_held, is_call_of, set_in, SetsAreFound}
 use Rattle.kernel_theorems.proofs.Tests.{not_both}
 
 -- THE CALLER FITS: the tests on the current user's number, which its primitives make, and its registers
@@ -31,7 +31,7 @@ caller y at user fit = record {
 }
 
 -- who calls in a dispatch for a system call is its current user
-pub the_caller : (d : Dispatch) (v : ℕ) → calls v d ≡ true → d.before.current ≡ v
+pub the_caller : (d : Dispatch) (v : ℕ) → is_call_of v d ≡ true → d.before.current ≡ v
 the_caller d v e = by (d.cause == 6) e
   where
     by : (b : Bool) → (b && (d.before.current == v)) ≡ true → d.before.current ≡ v
@@ -40,8 +40,8 @@ the_caller d v e = by (d.cause == 6) e
 
 -- A CALL THAT IS ANSWERED in a register: its caller finds the answer there, and all others keep their machines
 pub record AnsweredCall (d : Dispatch) (register : ℕ) (a : ℤ) : Type 0 where
-  pub found : (v : ℕ) → calls v d ≡ true → int_held d.after v register ≡ a
-  pub others : (v : ℕ) → 1 ≤ v → calls v d ≡ false → user_of d.after.users v ≡ user_of d.before.users v
+  pub found : (v : ℕ) → is_call_of v d ≡ true → int_held d.after v register ≡ a
+  pub others : (v : ℕ) → 1 ≤ v → is_call_of v d ≡ false → user_of d.after.users v ≡ user_of d.before.users v
 
 pub answered_call : SetsAreFound → (y : System) (d : Dispatch) (register : ℕ) (a : ℤ) → (d.cause == 6) ≡ true → Caller y d.before → IsUser d.before d.before.current → register < 32 → FitsSigned w32 a
     → d.after.users ≡ set_in d.before.users d.before.current register a → AnsweredCall d register a
@@ -49,16 +49,16 @@ answered_call sets y d register a cause c user room fits users =
     let set = sets d.before.users d.after d.before.current register a users user.0 user.1 room c.long fits in
     record {
       found = λ v e. subst (λ x. int_held d.after x register ≡ a) (the_caller d v e) set.found;
-      others = λ v some e. set.others v some (λ same. not_both (calls v d) (ap₂ (λ b w. b && (d.before.current == w)) cause same ∙ eq-eqb d.before.current d.before.current refl) e);
+      others = λ v some e. set.others v some (λ same. not_both (is_call_of v d) (ap₂ (λ b w. b && (d.before.current == w)) cause same ∙ eq-eqb d.before.current d.before.current refl) e);
     }
 
 -- A QUIET DISPATCH is for no system call and changes no machine: nobody calls in it, whatever is claimed of callers, and each user finds what it had
 pub record IsQuiet (d : Dispatch) : Type 0 where
-  pub none : (v : ℕ) → calls v d ≡ false
-  pub nobody : (v : ℕ) → calls v d ≡ true → ⊥
+  pub none : (v : ℕ) → is_call_of v d ≡ false
+  pub nobody : (v : ℕ) → is_call_of v d ≡ true → ⊥
   pub kept : (v : ℕ) → user_of d.after.users v ≡ user_of d.before.users v
 
 pub quiet_dispatch : (d : Dispatch) → (d.cause == 6) ≡ false → d.after.users ≡ d.before.users → IsQuiet d
 quiet_dispatch d other same =
-    let none : (v : ℕ) → calls v d ≡ false = λ v. ap (λ b. b && (d.before.current == v)) other in
-    record { none = none; nobody = λ v e. not_both (calls v d) e (none v); kept = λ v. ap (λ us. user_of us v) same }
+    let none : (v : ℕ) → is_call_of v d ≡ false = λ v. ap (λ b. b && (d.before.current == v)) other in
+    record { none = none; nobody = λ v e. not_both (is_call_of v d) e (none v); kept = λ v. ap (λ us. user_of us v) same }

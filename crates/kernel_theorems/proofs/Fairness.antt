@@ -5,7 +5,7 @@ use Rattle.std.specs.Prelude.{◌==◌, if◌then◌else◌}
 use Rattle.std.proofs.lemmas.Bool.{ltb-true, ltb-false}
 use Rattle.cvm_model.specs.declared.row.Next.TheVariants.{User}
 use Rattle.cvm_model.specs.declared.row.Row.{Row}
-use Rattle.kernel_theorems.specs.RoundRobin.{lines_of, lines_in, turn_after, InOrder, EachGetsATurn}
+use Rattle.kernel_theorems.specs.RoundRobin.{taken_lines, lines_in, turn_after, InOrder, EachGetsATurn}
 
 abbrev Found : ℕ → ℕ → List Row → Type 0
 Found users t rows = (a : List Row) × (r : Row) × (b : List Row) × (rows ≡ a ++ r ∷ b) × (r.next ≡ User (turn_after users t))
@@ -14,27 +14,27 @@ further : (users t : ℕ) (r : Row) (rest : List Row) → Found users t rest →
 further users t r rest f = (r ∷ f.0, f.1, f.2, ap (λ l. r ∷ l) f.3, f.4)
 
 -- the row of each line that is still to come
-few_lines : (r : Row) → lines_of r ≤ 1
+few_lines : (r : Row) → taken_lines r ≤ 1
 few_lines r = by (r.cause == 1)
   where
     by : (b : Bool) → (if b then 1 else 0) ≤ 1
     by true = omega arith
     by false = omega arith
 
-here_or_later : (users n t : ℕ) (r : Row) (rest : List Row) → r.next ≡ User (turn_after users (lines_of r + n)) → n < t → (lines_of r + n < t → Found users t rest) → (b : Bool) → nat_lt (lines_of r + n) t ≡ b → Found users t (r ∷ rest)
-here_or_later users n t r rest next less later true e = further users t r rest (later (omega (arith, ltb-true (lines_of r + n) t e)))
+here_or_later : (users n t : ℕ) (r : Row) (rest : List Row) → r.next ≡ User (turn_after users (taken_lines r + n)) → n < t → (taken_lines r + n < t → Found users t rest) → (b : Bool) → nat_lt (taken_lines r + n) t ≡ b → Found users t (r ∷ rest)
+here_or_later users n t r rest next less later true e = further users t r rest (later (omega (arith, ltb-true (taken_lines r + n) t e)))
 here_or_later users n t r rest next less later false e =
-    let same : lines_of r + n ≡ t = omega (arith, ltb-false (lines_of r + n) t e, few_lines r) in
+    let same : taken_lines r + n ≡ t = omega (arith, ltb-false (taken_lines r + n) t e, few_lines r) in
     ([], r, rest, refl, next ∙ ap (λ m. User (turn_after users m)) same)
 
 reaches : (users n t : ℕ) (rows : List Row) → InOrder users n rows → n < t → t ≤ n + lines_in rows → Found users t rows
 reaches users n t [] h less most = absurd (omega arith)
 reaches users n t (r ∷ rest) h less most =
-    here_or_later users n t r rest h.0 less (λ l. reaches users (lines_of r + n) t rest h.1 l (omega arith)) (nat_lt (lines_of r + n) t) refl
+    here_or_later users n t r rest h.0 less (λ l. reaches users (taken_lines r + n) t rest h.1 l (omega arith)) (nat_lt (taken_lines r + n) t) refl
 
 stretch_in_order : (users n : ℕ) (past rows : List Row) → InOrder users n (past ++ rows) → (m : ℕ) × InOrder users m rows
 stretch_in_order users n [] rows h = (n, h)
-stretch_in_order users n (r ∷ past) rows h = stretch_in_order users (lines_of r + n) past rows h.1
+stretch_in_order users n (r ∷ past) rows h = stretch_in_order users (taken_lines r + n) past rows h.1
 
 turn_is : (users q u : ℕ) → u < users → (q * users + u) % users ≡ u
 turn_is users q u h = ap (λ n. n % users) (omega arith) ∙ add-mul-mod_self_right u q users ∙ mod-eq_of_lt h

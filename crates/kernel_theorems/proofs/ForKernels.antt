@@ -11,7 +11,7 @@ pub use Rattle.cvm_model.specs.Cvm.{System, first_core}
 pub use Rattle.cvm_model.specs.declared.row.Next.{Next}
 pub use Rattle.cvm_model.specs.Invariant.{Dispatch, IsTrap, IsTrapOf, IsInvariant, HasUsers, Shaped, RunsAreLawful}
 pub use Rattle.cvm_model.proofs.Invariants.{invariants_hold}
-pub use Rattle.kernel_theorems.specs.Registers.{int_held, calls, set_in, SetsAreFound}
+pub use Rattle.kernel_theorems.specs.Registers.{int_held, is_call_of, set_in, SetsAreFound}
 pub use Rattle.kernel_theorems.specs.History.{EachHas, told_by}
 pub use Rattle.kernel_theorems.proofs.Answering.{rows_join, each_more, answers_user, answers_halt}
 pub use Rattle.kernel_theorems.proofs.Histories.{told_more, one_more, rows_length}

@@ -23,7 +23,7 @@ use Rattle.c0_meaning.specs.Operators.{divided}
 use Rattle.c0_meaning.specs.World.{Setting, Configuration, beginning}
 use Rattle.c0_meaning.specs.Running.{Work, begin, act_on, leave, into, outward, push}
 use Rattle.c0_meaning.specs.Execution.{dispatch}
-use Rattle.c0_meaning.specs.Reasoning.{DoneWith, Ends}
+use Rattle.c0_meaning.specs.Reasoning.{DoneWith, EndsIn}
 use Rattle.c0_meaning.proofs.Rules as rules
 use Rattle.cvm_model.specs.Kernel.{Core, Changes, KernelMeaning as Kernel}
 use Rattle.cvm_model.specs.KernelMeaning.{Machines, setting_of, machines_of}
@@ -92,11 +92,11 @@ module _ (p : Params) (room : 13 ≤ p.stack) where
 
   -- THE DIVISION, behind its test
   rated : (x : Data) (cause edata user who seen : ℤ) (d : Configuration Machines Changes) → not (int_eq x.a (pos 0)) ≡ true
-      → Ends s 20 (push dispatch_yes5 (push done (leave dispatch_answer outward ∷ []))) (record d { state = inside x cause edata user who seen }) (Answers who)
+      → EndsIn s 20 (push dispatch_yes5 (push done (leave dispatch_answer outward ∷ []))) (record d { state = inside x cause edata user who seen }) (Answers who)
   rated x cause edata user who seen d e = rw (divides x.b x.a e) (record { values = record x { rate = quotient x.b x.a }; answer = refl; state = refl })
 
   last_part : (x : Data) (cause edata user who seen : ℤ) (d : Configuration Machines Changes)
-      → Ends s 30 (push dispatch_rest3 (leave dispatch_answer outward ∷ [])) (record d { state = inside x cause edata user who seen }) (Answers who)
+      → EndsIn s 30 (push dispatch_rest3 (leave dispatch_answer outward ∷ [])) (record d { state = inside x cause edata user who seen }) (Answers who)
   last_part x cause edata user who seen d =
       rules.more Machines Changes s (1 + 5 + 20) 30 (push dispatch_rest3 (leave dispatch_answer outward ∷ [])) (record d { state = inside x cause edata user who seen }) (Answers who) (omega arith)
       (rules.by_choice Machines Changes s z dispatch_test5 dispatch_yes5 done done (leave dispatch_answer outward ∷ []) (record d { state = inside x cause edata user who seen }) 5 20 (not (int_eq x.a (pos 0))) (Answers who)
@@ -117,7 +117,7 @@ module _ (p : Params) (room : 13 ≤ p.stack) where
     same : values.cell ≡ cell
     state : d.state ≡ in_bump values at seen behind
 
-  bumped : (x : Data) (at : ℤ) (behind : List Frame) (d : Configuration Machines Changes) → Ends s 60 (push bump_body []) (record d { state = in_bump x at (pos 0) behind }) (Bumped at behind x.cell)
+  bumped : (x : Data) (at : ℤ) (behind : List Frame) (d : Configuration Machines Changes) → EndsIn s 60 (push bump_body []) (record d { state = in_bump x at (pos 0) behind }) (Bumped at behind x.cell)
   bumped x (pos zero) behind d = record { values = record x { a = int_wrap w32 (x.a +ℤ pos 1) }; seen = _; same = refl; state = refl }
   bumped x (pos (suc zero)) behind d = record { values = record x { b = int_wrap w32 (x.b +ℤ pos 1) }; seen = _; same = refl; state = refl }
   bumped x (pos (suc (suc zero))) behind d = record { values = record x { c = int_wrap w32 (x.c +ℤ pos 1) }; seen = _; same = refl; state = refl }
@@ -141,7 +141,7 @@ module _ (p : Params) (room : 13 ≤ p.stack) where
   abbrev back_in : Data → (at seen cause edata user : ℤ) → Configuration Machines Changes → Configuration Machines Changes
   back_in x at seen cause edata user d = record d { state = in_bump x at seen (frame_of cause edata user ∷ []) }
 
-  stored : (x : Data) (o : Option ℤ) (at seen cause edata user : ℤ) (d : Configuration Machines Changes) → Ends s 60 returning (back_in (record x { cell = o }) at seen cause edata user d) (Answers user)
+  stored : (x : Data) (o : Option ℤ) (at seen cause edata user : ℤ) (d : Configuration Machines Changes) → EndsIn s 60 returning (back_in (record x { cell = o }) at seen cause edata user d) (Answers user)
   stored x None at seen cause edata user d =
       rules.straight Machines Changes s 3 30 30 returning (back_in (record x { cell = None }) at seen cause edata user d) (Answers user)
       (omega arith, last_part (record x { cell = None }) cause edata user user seen d)
@@ -153,7 +153,7 @@ module _ (p : Params) (room : 13 ≤ p.stack) where
   abbrev at_call : List Work
   at_call = act_on (call z (local (codes "seen") 4) z (name (codes "bump") Function 0) (local (codes "data") 1 ∷ [])) (next (choice z dispatch_test4 dispatch_yes4 done) done) ∷ behind_call
 
-  called : (x : Data) (cause edata user : ℤ) (c : Configuration Machines Changes) → Ends s (2 + 1 + 1 + (60 + suc 60)) at_call (record c { state = inside x cause edata user user (pos 0) }) (Answers user)
+  called : (x : Data) (cause edata user : ℤ) (c : Configuration Machines Changes) → EndsIn s (2 + 1 + 1 + (60 + suc 60)) at_call (record c { state = inside x cause edata user user (pos 0) }) (Answers user)
   called x cause edata user c =
       let room13 : nat_lt p.stack 13 ≡ false = le-ltb p.stack 13 room in
       let at : Configuration Machines Changes = record c { state = inside x cause edata user user (pos 0) } in
@@ -164,7 +164,7 @@ module _ (p : Params) (room : 13 ≤ p.stack) where
 
   -- A TRAP whose data the kernel knows nothing of
   trapped : (m : ℕ) → int_eq (pos m) (pos 0) ≡ false → int_eq (pos m) (pos 7) ≡ false → int_lt (pos 1) (pos m) ≡ true → (x : Data) (edata user : ℤ) (world : Machines)
-      → Ends s 300 (begin 1 (part (int (pos m)) (part (int edata) (part (int user) empty))) ∷ []) (beginning (data_of x) world) (Answers user)
+      → EndsIn s 300 (begin 1 (part (int (pos m)) (part (int edata) (part (int user) empty))) ∷ []) (beginning (data_of x) world) (Answers user)
   trapped m no_start no_division no_line x edata user world =
       let room8 : nat_lt p.stack 8 ≡ false = le-ltb p.stack 8 (omega (arith, room)) in
       rules.more Machines Changes s (50 + (2 + 1 + 1 + (60 + suc 60))) 300 (begin 1 (part (int (pos m)) (part (int edata) (part (int user) empty))) ∷ []) (beginning (data_of x) world) (Answers user) (omega arith)
@@ -173,7 +173,7 @@ module _ (p : Params) (room : 13 ≤ p.stack) where
 
   -- A TRAP FOR AN ADDRESS: the division has no test, and needs what its data are
   misaligned : (x : Data) (edata user : ℤ) (world : Machines) → remainder edata (pos 4) ≢ pos 0
-      → Ends s 300 (begin 1 (part (int (pos 7)) (part (int edata) (part (int user) empty))) ∷ []) (beginning (data_of x) world) (Answers user)
+      → EndsIn s 300 (begin 1 (part (int (pos 7)) (part (int edata) (part (int user) empty))) ∷ []) (beginning (data_of x) world) (Answers user)
   misaligned x edata user world more =
       let room8 : nat_lt p.stack 8 ≡ false = le-ltb p.stack 8 (omega (arith, room)) in
       let now : Data = record x { rate = quotient (pos 12) (remainder edata (pos 4)) } in
@@ -182,7 +182,7 @@ module _ (p : Params) (room : 13 ≤ p.stack) where
       (rw (room8, divides_by (pos 12) (remainder edata (pos 4)) more) (omega arith, called now (pos 7) edata user (beginning (data_of x) world))))
 
   -- A LINE, and THE START, where `new` may give null
-  lined : (x : Data) (edata user : ℤ) (world : Machines) → Ends s 300 (begin 1 (part (int (pos 1)) (part (int edata) (part (int user) empty))) ∷ []) (beginning (data_of x) world) (Answers user)
+  lined : (x : Data) (edata user : ℤ) (world : Machines) → EndsIn s 300 (begin 1 (part (int (pos 1)) (part (int edata) (part (int user) empty))) ∷ []) (beginning (data_of x) world) (Answers user)
   lined x edata user world =
       let room8 : nat_lt p.stack 8 ≡ false = le-ltb p.stack 8 (omega (arith, room)) in
       rules.more Machines Changes s (40 + 30) 300 (begin 1 (part (int (pos 1)) (part (int edata) (part (int user) empty))) ∷ []) (beginning (data_of x) world) (Answers user) (omega arith)
@@ -193,7 +193,7 @@ module _ (p : Params) (room : 13 ≤ p.stack) where
   nothing = record { a = pos 0; b = pos 0; c = pos 0; d = pos 0; rate = pos 0; cell = None }
 
   started : (edata user : ℤ) (world : Machines) (full : Bool) → nat_lt p.heap 1 ≡ full
-      → Ends s 300 (begin 1 (part (int (pos 0)) (part (int edata) (part (int user) empty))) ∷ []) (beginning (data_of nothing) world) (Answers (pos 1))
+      → EndsIn s 300 (begin 1 (part (int (pos 0)) (part (int edata) (part (int user) empty))) ∷ []) (beginning (data_of nothing) world) (Answers (pos 1))
   started edata user world true e =
       let room8 : nat_lt p.stack 8 ≡ false = le-ltb p.stack 8 (omega (arith, room)) in
       rw (room8, e) (record { values = nothing; answer = refl; state = refl })
@@ -205,7 +205,7 @@ module _ (p : Params) (room : 13 ≤ p.stack) where
 module _ (tell : StepsTell) (y : System) (r : RunsGuarded y) where
   -- a dispatch that answers a user, from data that is known
   keeps : (k cause edata : ℕ) (past : List Dispatch) (at : Core) (x : Data) (u : ℕ) → at.c0 ≡ data_of x → 1 ≤ u → u ≤ length y.boot.users
-      → Ends (setting_of guarded y.boot.params) 300 (begin 1 (part (int (pos cause)) (part (int (signed edata)) (part (int (pos at.current)) empty))) ∷ []) (beginning (data_of x) (machines_of y.boot.params at)) (Answers y.boot.params r.room (pos u))
+      → EndsIn (setting_of guarded y.boot.params) 300 (begin 1 (part (int (pos cause)) (part (int (signed edata)) (part (int (pos at.current)) empty))) ∷ []) (beginning (data_of x) (machines_of y.boot.params at)) (Answers y.boot.params r.room (pos u))
       → Keeps y 300 IsData k cause edata past at
   keeps k cause edata past at x u data_is some few h =
       keeps_by y guarded r.meaning_is 300 IsData k cause edata past at
@@ -224,7 +224,7 @@ module _ (tell : StepsTell) (y : System) (r : RunsGuarded y) where
   }
     where
       trap : (f : Flat) (cause : Cause) (edata : ℕ) → TrapTells f cause edata → (x : Data) (user : ℤ) (world : Machines)
-          → Ends (setting_of guarded y.boot.params) 300 (begin 1 (part (int (pos (cause_number cause))) (part (int (signed edata)) (part (int user) empty))) ∷ []) (beginning (data_of x) world) (Answers y.boot.params r.room user)
+          → EndsIn (setting_of guarded y.boot.params) 300 (begin 1 (part (int (pos (cause_number cause))) (part (int (signed edata)) (part (int user) empty))) ∷ []) (beginning (data_of x) world) (Answers y.boot.params r.room user)
       trap f causes.Reset edata tells x user world = absurd tells
       trap f causes.External edata tells x user world = absurd tells
       trap f causes.DataAlign edata tells x user world = misaligned y.boot.params r.room x (signed edata) user world (leaves_more edata tells)

@@ -1,6 +1,6 @@
 -- Histories with a dispatch more. This file may be cited from other crates.
 use Rattle.std.proofs.Common.{◌≡◌, suc, List, [], ◌∷◌, ◌++◌, length, refl, ap}
-use Rattle.cvm_model.specs.Invariant.{Dispatch, rows_of}
+use Rattle.cvm_model.specs.Invariant.{Dispatch, dispatch_rows}
 use Rattle.kernel_theorems.specs.History.{told_by}
 
 -- what is known by the dispatches, one after another
@@ -13,6 +13,6 @@ pub one_more : (past : List Dispatch) (d : Dispatch) → length (past ++ d ∷ [
 one_more [] d = refl
 one_more (e ∷ past) d = ap suc (one_more past d)
 
-pub rows_length : (past : List Dispatch) → length (rows_of past) ≡ length past
+pub rows_length : (past : List Dispatch) → length (dispatch_rows past) ≡ length past
 rows_length [] = refl
 rows_length (d ∷ past) = ap suc (rows_length past)

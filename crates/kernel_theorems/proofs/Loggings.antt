@@ -22,7 +22,7 @@ use Rattle.c0_meaning.specs.State.{C0State}
 use Rattle.c0_meaning.specs.World.{Called, Setting, Configuration, beginning}
 use Rattle.c0_meaning.specs.Running.{Work, begin, finish, leave, outward, push}
 use Rattle.c0_meaning.specs.Execution.{dispatch}
-use Rattle.c0_meaning.specs.Reasoning.{DoneWith, Ends}
+use Rattle.c0_meaning.specs.Reasoning.{DoneWith, EndsIn}
 use Rattle.c0_meaning.proofs.Rules as rules
 use Rattle.cvm_model.specs.Kernel.{Core, Changes, KernelMeaning}
 use Rattle.cvm_model.specs.KernelMeaning.{Machines, kernel_primitive, setting_of, machines_of}
@@ -35,7 +35,7 @@ use Rattle.kernel_theorems.specs.History.{EachHas}
 use Rattle.kernel_theorems.proofs.Answering.{each_more, answers_user}
 use Rattle.kernel_theorems.proofs.Weaker.{weaker, from_place}
 use Rattle.kernel_theorems.specs.LoggingTree.{logging, dispatch_yes3, dispatch_test4, dispatch_turn4, dispatch_rest3, dispatch_answer}
-use Rattle.kernel_theorems.specs.Logging.{below, Logs, Data, data_of, first, IsLogging, RunsLogging, LoggingIsKept}
+use Rattle.kernel_theorems.specs.Logging.{words_below, Logs, Data, data_of, first, IsLogging, RunsLogging, LoggingIsKept}
 
 -- A WORD MORE in a log that may be full
 log_more : (room : ℕ) (xs : List ℕ) (x : ℕ) → (if nat_lt (length (take room xs)) room then take room xs ++ x ∷ [] else take room xs) ≡ take room (xs ++ x ∷ [])
@@ -50,7 +50,7 @@ log_more room xs x = by (nat_lt (length (take room xs)) room) refl
 
 -- the machines with the numbers below one logged
 abbrev logged : Machines → ℕ → Machines
-logged m n = record m { console = record m.console { log = take LOG_ROOM (m.console.log ++ below n) } }
+logged m n = record m { console = record m.console { log = take LOG_ROOM (m.console.log ++ words_below n) } }
 
 -- as `con_put` logs one more
 abbrev put_in : Console → ℕ → Console
@@ -59,9 +59,9 @@ put_in o w = if log_has_room o.log then record o { log = o.log ++ w ∷ [] } els
 logged_more : (m : Machines) (n : ℕ) → record (logged m n) { console = put_in (logged m n).console (cast_unsigned w32 (pos n)) } ≡ logged m (suc n)
 logged_more m n =
     let w : ℕ = cast_unsigned w32 (pos n) in
-    let xs : List ℕ = m.console.log ++ below n in
+    let xs : List ℕ = m.console.log ++ words_below n in
     by w xs (log_has_room (take LOG_ROOM xs))
-    ∙ ap (λ log. record m { console = record m.console { log = log } }) (log_more LOG_ROOM xs w ∙ ap (take LOG_ROOM) (append_assoc m.console.log (below n) (w ∷ [])))
+    ∙ ap (λ log. record m { console = record m.console { log = log } }) (log_more LOG_ROOM xs w ∙ ap (take LOG_ROOM) (append_assoc m.console.log (words_below n) (w ∷ [])))
   where
     by : (w : ℕ) (xs : List ℕ) (b : Bool)
         → record m { console = if b then record m.console { log = take LOG_ROOM xs ++ w ∷ [] } else record m.console { log = take LOG_ROOM xs } }
@@ -104,7 +104,7 @@ module _ (p : Params) (x : Data) (cause edata : ℤ) (u : ℕ) (who : ℤ) (m : 
   behind_loop = leave dispatch_answer outward ∷ []
 
   -- one turn of the loop: the primitive by its rule, and what is behind it computes
-  turn : (n j : ℕ) (ok : Value) (d : Configuration Machines Changes) → suc n + j ≡ u → Ends s 20 (push dispatch_turn4 []) (record d { state = in_loop ok (pos n); world = logged m n }) (Left j)
+  turn : (n j : ℕ) (ok : Value) (d : Configuration Machines Changes) → suc n + j ≡ u → EndsIn s 20 (push dispatch_turn4 []) (record d { state = in_loop ok (pos n); world = logged m n }) (Left j)
   turn n j ok d left =
       let fits : int_wrap w32 (pos (n + 1)) ≡ pos (n + 1) = int_wrap_fits w32 (pos (n + 1)) (record { sfits = omega arith }) in
       let same : suc n ≡ n + 1 = omega arith in
@@ -128,7 +128,7 @@ module _ (p : Params) (x : Data) (cause edata : ℤ) (u : ℕ) (who : ℤ) (m : 
         from_place Machines Changes s 5 behind_loop d (in_loop h.ok (pos h.n)) (logged m h.n) Answers h.is h.world (record { answer = refl; state = refl; world = ap (logged m) done_all });
   }
 
-  looped : (ok : Value) (c : Configuration Machines Changes) → Ends s 150 (push dispatch_rest3 behind_loop) (record c { state = in_loop ok (pos 0); world = m }) Answers
+  looped : (ok : Value) (c : Configuration Machines Changes) → EndsIn s 150 (push dispatch_rest3 behind_loop) (record c { state = in_loop ok (pos 0); world = m }) Answers
   looped ok c =
       let n : ℕ = suc u * 25 + 5 in
       let c' : Configuration Machines Changes = record c { state = in_loop ok (pos 0); world = m } in
@@ -142,7 +142,7 @@ module _ (y : System) (r : RunsLogging y) where
 
   -- the code of a dispatch, from data that is known
   abbrev Does : (k cause edata : ℕ) → List Dispatch → Core → Data → Type 0
-  Does k cause edata past at x = Ends (setting_of logging y.boot.params) 400
+  Does k cause edata past at x = EndsIn (setting_of logging y.boot.params) 400
       (begin 0 (part (int (pos cause)) (part (int (signed edata)) (part (int (pos at.current)) empty))) ∷ []) (beginning (data_of x) (machines_of y.boot.params at))
       (KeptAt y IsLogging k cause edata past at)
 
@@ -174,14 +174,14 @@ module _ (y : System) (r : RunsLogging y) where
 
     -- the loop, and then the property
     then_kept : (x : Data) (who : ℤ) (a : ℕ) → who ≡ pos a → 1 ≤ a → a ≤ 3 → (c : Configuration Machines Changes)
-        → Ends st 150 (push dispatch_rest3 (leave dispatch_answer outward ∷ [])) (record c { state = at_loop x who; world = m }) (KeptAt y IsLogging k cause edata past at)
+        → EndsIn st 150 (push dispatch_rest3 (leave dispatch_answer outward ∷ [])) (record c { state = at_loop x who; world = m }) (KeptAt y IsLogging k cause edata past at)
     then_kept x who a is some most c =
         weaker Machines Changes _ (Answers y.boot.params x (pos cause) (signed edata) at.current who m few room) (KeptAt y IsLogging k cause edata past at)
         (kept x who a is some most) (looped y.boot.params x (pos cause) (signed edata) at.current who m few room (bool false) c)
 
     -- `new`, by its rule: an object more, or null where the heap is full
     made : (x : Data) → 1 ≤ at.current → (c : Configuration Machines Changes)
-        → Ends st 202 (push dispatch_yes3 (push dispatch_rest3 (leave dispatch_answer outward ∷ []))) (record c { state = at_loop x (pos at.current); world = m }) (KeptAt y IsLogging k cause edata past at)
+        → EndsIn st 202 (push dispatch_yes3 (push dispatch_rest3 (leave dispatch_answer outward ∷ []))) (record c { state = at_loop x (pos at.current); world = m }) (KeptAt y IsLogging k cause edata past at)
     made x some c =
         let w : List Work = push dispatch_rest3 (leave dispatch_answer outward ∷ []) in
         let c' : Configuration Machines Changes = record c { state = at_loop x (pos at.current); world = m } in

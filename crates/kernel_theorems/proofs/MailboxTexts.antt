@@ -1,11 +1,11 @@
 -- The mailbox's text is its tree.
 use Rattle.std.proofs.Common.{refl, arith}
 use Rattle.c0_tokens.specs.Lexis.{mark_cut, word_lexeme}
-use Rattle.c0_tokens.specs.Spelling.{words, marks}
+use Rattle.c0_tokens.specs.Spelling.{reserved_words, marks}
 use Rattle.kernel_theorems.specs.Text.{IsTextOf}
 use Rattle.kernel_theorems.specs.Mailbox.{text}
 use Rattle.kernel_theorems.specs.MailboxTree.{mailbox}
 
 pub is_text : IsTextOf 37000 text mailbox
-unfolding mark_cut word_lexeme words marks
+unfolding mark_cut word_lexeme reserved_words marks
 is_text = record { short = omega arith; reads = refl; faultless = refl; is = refl }

@@ -17,7 +17,7 @@ use Rattle.c0_meaning.specs.State.{C0State}
 use Rattle.c0_meaning.specs.World.{beginning}
 use Rattle.c0_meaning.specs.Running.{begin}
 use Rattle.c0_meaning.specs.Execution.{dispatch}
-use Rattle.c0_meaning.specs.Reasoning.{DoneWith, Ends}
+use Rattle.c0_meaning.specs.Reasoning.{DoneWith, EndsIn}
 use Rattle.cvm_model.specs.Kernel.{Core, KernelMeaning}
 use Rattle.cvm_model.specs.KernelMeaning.{setting_of, machines_of}
 use Rattle.cvm_model.specs.Primitives.{user_of, with_register, no_flat}
@@ -29,10 +29,10 @@ use Rattle.cvm_model.proofs.KeepsDispatch.{keeps_by}
 use Rattle.kernel_theorems.proofs.Answering.{each_more, answers_user, answers_halt}
 use Rattle.kernel_theorems.proofs.Callers.{quiet_dispatch}
 use Rattle.kernel_theorems.proofs.Tests.{not_both}
-use Rattle.kernel_theorems.specs.Registers.{int_held, calls, set_in, IsSet, SetsAreFound}
+use Rattle.kernel_theorems.specs.Registers.{int_held, is_call_of, set_in, IsSet, SetsAreFound}
 use Rattle.kernel_theorems.specs.History.{EachHas}
 use Rattle.kernel_theorems.specs.MailboxTree.{mailbox}
-use Rattle.kernel_theorems.specs.Mailbox.{succeeds, put_by, got_by, puts, gots, waits, IsAnswered, under_way, data_of, IsIntOr, Carries, RunsMailbox, IsDelivered, MessagesAreDelivered}
+use Rattle.kernel_theorems.specs.Mailbox.{succeeds, put_by, got_by, puts, gots, waits, IsAnswered, message_under_way, data_of, IsIntOr, Carries, RunsMailbox, IsDelivered, MessagesAreDelivered}
 
 -- HISTORY with one dispatch more
 puts_more : (past : List Dispatch) (d : Dispatch) → puts (past ++ d ∷ []) ≡ puts past ++ put_by d
@@ -48,18 +48,18 @@ abbrev is_some : Option ℤ → Bool
 is_some None = false
 is_some (Some v) = true
 
-waits_is : (past : List Dispatch) (w : Option ℤ) → puts past ≡ gots past ++ under_way w → waits past ≡ is_some w
+waits_is : (past : List Dispatch) (w : Option ℤ) → puts past ≡ gots past ++ message_under_way w → waits past ≡ is_some w
 waits_is past None order = let e : length (puts past) ≡ length (gots past) + 0 = ap length order ∙ length-append (gots past) [] in le-ltb (length (gots past)) (length (puts past)) (omega (arith, e))
 waits_is past (Some v) order = let e : length (puts past) ≡ length (gots past) + 1 = ap length order ∙ length-append (gots past) (v ∷ []) in lt-ltb (length (gots past)) (length (puts past)) (omega (arith, e))
 
 -- what is so after a dispatch, by what it put and got
-carried : (past : List Dispatch) (d : Dispatch) (w v : Option ℤ) (now : ℤ) (u : ℕ) → puts past ≡ gots past ++ under_way w → EachHas IsAnswered [] past
-    → under_way w ++ put_by d ≡ got_by d ++ under_way v → IsIntOr v → IsAnswered past d → Carries (past ++ d ∷ []) (data_of v now) u
+carried : (past : List Dispatch) (d : Dispatch) (w v : Option ℤ) (now : ℤ) (u : ℕ) → puts past ≡ gots past ++ message_under_way w → EachHas IsAnswered [] past
+    → message_under_way w ++ put_by d ≡ got_by d ++ message_under_way v → IsIntOr v → IsAnswered past d → Carries (past ++ d ∷ []) (data_of v now) u
 carried past d w v now u order answered local fits is = record {
   delivers = record {
     way = v;
-    in_order = puts_more past d ∙ ap (λ xs. xs ++ put_by d) order ∙ append_assoc (gots past) (under_way w) (put_by d) ∙ ap (λ xs. gots past ++ xs) local
-        ∙ sym (append_assoc (gots past) (got_by d) (under_way v)) ∙ ap (λ xs. xs ++ under_way v) (sym (gots_more past d));
+    in_order = puts_more past d ∙ ap (λ xs. xs ++ put_by d) order ∙ append_assoc (gots past) (message_under_way w) (put_by d) ∙ ap (λ xs. gots past ++ xs) local
+        ∙ sym (append_assoc (gots past) (got_by d) (message_under_way v)) ∙ ap (λ xs. xs ++ message_under_way v) (sym (gots_more past d));
     answered = each_more IsAnswered [] past d answered is;
   };
   old = now;
@@ -68,17 +68,17 @@ carried past d w v now u order answered local fits is = record {
 }
 
 -- who called
-call_of : (user : ℕ) (d : Dispatch) → d.cause ≡ 6 → d.before.current ≡ user → (user == user) ≡ true → calls user d ≡ true
+call_of : (user : ℕ) (d : Dispatch) → d.cause ≡ 6 → d.before.current ≡ user → (user == user) ≡ true → is_call_of user d ≡ true
 call_of user d cause is same = ap₂ (λ c u. (c == 6) && (u == user)) cause is ∙ same
 
-no_call_of : (user other : ℕ) (d : Dispatch) → d.cause ≡ 6 → d.before.current ≡ other → (other == user) ≡ false → calls user d ≡ false
+no_call_of : (user other : ℕ) (d : Dispatch) → d.cause ≡ 6 → d.before.current ≡ other → (other == user) ≡ false → is_call_of user d ≡ false
 no_call_of user other d cause is same = ap₂ (λ c u. (c == 6) && (u == user)) cause is ∙ same
 
 -- what a dispatch puts and gets, by who called and what it was told
-failed : (user : ℕ) (d : Dispatch) → calls user d ≡ false → succeeds user d ≡ false
+failed : (user : ℕ) (d : Dispatch) → is_call_of user d ≡ false → succeeds user d ≡ false
 failed user d e = ap (λ b. b && int_eq (int_held d.after user 2) (pos 1)) e
 
-told : (user : ℕ) (d : Dispatch) (a : ℤ) → calls user d ≡ true → int_held d.after user 2 ≡ a → succeeds user d ≡ int_eq a (pos 1)
+told : (user : ℕ) (d : Dispatch) (a : ℤ) → is_call_of user d ≡ true → int_held d.after user 2 ≡ a → succeeds user d ≡ int_eq a (pos 1)
 told user d a e is = ap₂ (λ b z. b && int_eq z (pos 1)) e is
 
 no_put : (d : Dispatch) → succeeds 1 d ≡ false → put_by d ≡ []
@@ -88,13 +88,13 @@ no_get : (d : Dispatch) → succeeds 2 d ≡ false → got_by d ≡ []
 no_get d e = ap (λ b. if b then int_held d.after 2 3 ∷ [] else []) e
 
 -- nothing is put or got
-idle : (past : List Dispatch) (d : Dispatch) (w : Option ℤ) (now : ℤ) (u : ℕ) → puts past ≡ gots past ++ under_way w → EachHas IsAnswered [] past → IsIntOr w
+idle : (past : List Dispatch) (d : Dispatch) (w : Option ℤ) (now : ℤ) (u : ℕ) → puts past ≡ gots past ++ message_under_way w → EachHas IsAnswered [] past → IsIntOr w
     → succeeds 1 d ≡ false → succeeds 2 d ≡ false → IsAnswered past d → Carries (past ++ d ∷ []) (data_of w now) u
 idle past d w now u order answered fits put got is =
-    carried past d w w now u order answered (ap (λ xs. under_way w ++ xs) (no_put d put) ∙ append-nil (under_way w) ∙ ap (λ xs. xs ++ under_way w) (sym (no_get d got))) fits is
+    carried past d w w now u order answered (ap (λ xs. message_under_way w ++ xs) (no_put d put) ∙ append-nil (message_under_way w) ∙ ap (λ xs. xs ++ message_under_way w) (sym (no_get d got))) fits is
 
 -- a quiet dispatch
-quiet : (past : List Dispatch) (d : Dispatch) (w : Option ℤ) (now : ℤ) (u : ℕ) → puts past ≡ gots past ++ under_way w → EachHas IsAnswered [] past → IsIntOr w
+quiet : (past : List Dispatch) (d : Dispatch) (w : Option ℤ) (now : ℤ) (u : ℕ) → puts past ≡ gots past ++ message_under_way w → EachHas IsAnswered [] past → IsIntOr w
     → (d.cause == 6) ≡ false → d.after.users ≡ d.before.users → Carries (past ++ d ∷ []) (data_of w now) u
 quiet past d w now u order answered fits other same =
     let q = quiet_dispatch d other same in
@@ -114,38 +114,38 @@ signed_fits n = by (nat_lt n (2 ^ 31)) refl
     by false e = rw e (record { sfits = let h = ltb-false n (2 ^ 31) e in omega (arith, h) })
 
 -- A SYSTEM CALL of a user, which finds an answer in its register 2; all others keep their machines
-module _ (past : List Dispatch) (d : Dispatch) (at : Core) (w : Option ℤ) (cause : d.cause ≡ 6) (before : d.before ≡ at) (order : puts past ≡ gots past ++ under_way w) where
+module _ (past : List Dispatch) (d : Dispatch) (at : Core) (w : Option ℤ) (cause : d.cause ≡ 6) (before : d.before ≡ at) (order : puts past ≡ gots past ++ message_under_way w) where
   -- `others` of the record, for the user who called
   abbrev Others : ℕ → Type 0
   Others user = (v : ℕ) → 1 ≤ v → v ≢ user → user_of d.after.users v ≡ user_of at.users v
 
-  others_of : (user : ℕ) → calls user d ≡ true → Others user → (v : ℕ) → 1 ≤ v → calls v d ≡ false → user_of d.after.users v ≡ user_of d.before.users v
+  others_of : (user : ℕ) → is_call_of user d ≡ true → Others user → (v : ℕ) → 1 ≤ v → is_call_of v d ≡ false → user_of d.after.users v ≡ user_of d.before.users v
   others_of user c h v some e =
-      h v some (λ same. not_both (calls v d) (subst (λ x. calls x d ≡ true) (sym same) c) e) ∙ ap (λ (x : Core). user_of x.users v) (sym before)
+      h v some (λ same. not_both (is_call_of v d) (subst (λ x. is_call_of x d ≡ true) (sym same) c) e) ∙ ap (λ (x : Core). user_of x.users v) (sym before)
 
-  by_one : (a : ℤ) → at.current ≡ 1 → (if is_some w then pos 0 else pos 1) ≡ a → int_held d.after 1 2 ≡ a → Others 1 → (calls 1 d ≡ true) × (calls 2 d ≡ false) × IsAnswered past d
+  by_one : (a : ℤ) → at.current ≡ 1 → (if is_some w then pos 0 else pos 1) ≡ a → int_held d.after 1 2 ≡ a → Others 1 → (is_call_of 1 d ≡ true) × (is_call_of 2 d ≡ false) × IsAnswered past d
   by_one a current answer found others =
       let is : d.before.current ≡ 1 = ap (λ (x : Core). x.current) before ∙ current in
-      let c : calls 1 d ≡ true = call_of 1 d cause is refl in
-      let n : calls 2 d ≡ false = no_call_of 2 1 d cause is refl in (
+      let c : is_call_of 1 d ≡ true = call_of 1 d cause is refl in
+      let n : is_call_of 2 d ≡ false = no_call_of 2 1 d cause is refl in (
         c,
         n,
         record {
           put = λ e. found ∙ sym (ap (λ b. if b then pos 0 else pos 1) (waits_is past w order) ∙ answer);
-          get = λ e. absurd (not_both (calls 2 d) e n);
+          get = λ e. absurd (not_both (is_call_of 2 d) e n);
           others = others_of 1 c others;
         },
       )
 
-  by_two : (a : ℤ) → at.current ≡ 2 → (if is_some w then pos 1 else pos 0) ≡ a → int_held d.after 2 2 ≡ a → Others 2 → (calls 2 d ≡ true) × (calls 1 d ≡ false) × IsAnswered past d
+  by_two : (a : ℤ) → at.current ≡ 2 → (if is_some w then pos 1 else pos 0) ≡ a → int_held d.after 2 2 ≡ a → Others 2 → (is_call_of 2 d ≡ true) × (is_call_of 1 d ≡ false) × IsAnswered past d
   by_two a current answer found others =
       let is : d.before.current ≡ 2 = ap (λ (x : Core). x.current) before ∙ current in
-      let c : calls 2 d ≡ true = call_of 2 d cause is refl in
-      let n : calls 1 d ≡ false = no_call_of 1 2 d cause is refl in (
+      let c : is_call_of 2 d ≡ true = call_of 2 d cause is refl in
+      let n : is_call_of 1 d ≡ false = no_call_of 1 2 d cause is refl in (
         c,
         n,
         record {
-          put = λ e. absurd (not_both (calls 1 d) e n);
+          put = λ e. absurd (not_both (is_call_of 1 d) e n);
           get = λ e. found ∙ sym (ap (λ b. if b then pos 1 else pos 0) (waits_is past w order) ∙ answer);
           others = others_of 2 c others;
         },
@@ -159,7 +159,7 @@ module _ (sets : SetsAreFound) (past : List Dispatch) (d : Dispatch) (at : Core)
       sets at.users d.after user 2 a (users ∙ ap (λ x. set_in at.users x 2 a) current) some (omega (arith, two)) (omega arith) (long user some few) fits
 
   -- A PUT that is taken
-  put : (now : ℤ) (u : ℕ) → at.current ≡ 1 → d.after.users ≡ set_in at.users at.current 2 (pos 1) → puts past ≡ gots past ++ under_way None
+  put : (now : ℤ) (u : ℕ) → at.current ≡ 1 → d.after.users ≡ set_in at.users at.current 2 (pos 1) → puts past ≡ gots past ++ message_under_way None
       → Carries (past ++ d ∷ []) (data_of (Some (int_held at 1 4)) now) u
   put now u current users order =
       let s = set 1 (pos 1) current (omega arith) (omega arith) one_fits users in
@@ -169,21 +169,21 @@ module _ (sets : SetsAreFound) (past : List Dispatch) (d : Dispatch) (at : Core)
       (signed_fits (slice_index (user_of at.users 1).cpu.regs 4)) c.2
 
   -- a put that is not, and a get where there is no message
-  put_waits : (v now : ℤ) (u : ℕ) → at.current ≡ 1 → d.after.users ≡ set_in at.users at.current 2 (pos 0) → puts past ≡ gots past ++ under_way (Some v) → FitsSigned w32 v
+  put_waits : (v now : ℤ) (u : ℕ) → at.current ≡ 1 → d.after.users ≡ set_in at.users at.current 2 (pos 0) → puts past ≡ gots past ++ message_under_way (Some v) → FitsSigned w32 v
       → Carries (past ++ d ∷ []) (data_of (Some v) now) u
   put_waits v now u current users order fits =
       let s = set 1 (pos 0) current (omega arith) (omega arith) none_fits users in
       let c = by_one past d at (Some v) cause before order (pos 0) current refl s.found s.others in
       idle past d (Some v) now u order answered fits (told 1 d (pos 0) c.0 s.found) (failed 2 d c.1) c.2
 
-  get_waits : (now : ℤ) (u : ℕ) → at.current ≡ 2 → d.after.users ≡ set_in at.users at.current 2 (pos 0) → puts past ≡ gots past ++ under_way None → Carries (past ++ d ∷ []) (data_of None now) u
+  get_waits : (now : ℤ) (u : ℕ) → at.current ≡ 2 → d.after.users ≡ set_in at.users at.current 2 (pos 0) → puts past ≡ gots past ++ message_under_way None → Carries (past ++ d ∷ []) (data_of None now) u
   get_waits now u current users order =
       let s = set 2 (pos 0) current (omega arith) (omega arith) none_fits users in
       let c = by_two past d at None cause before order (pos 0) current refl s.found s.others in
       idle past d None now u order answered tt (failed 1 d c.1) (told 2 d (pos 0) c.0 s.found) c.2
 
   -- A GET of a message: register 3 is set, and then register 2
-  get : (v now : ℤ) (u : ℕ) → at.current ≡ 2 → d.after.users ≡ set_in (set_in at.users 2 3 v) at.current 2 (pos 1) → puts past ≡ gots past ++ under_way (Some v) → FitsSigned w32 v
+  get : (v now : ℤ) (u : ℕ) → at.current ≡ 2 → d.after.users ≡ set_in (set_in at.users 2 3 v) at.current 2 (pos 1) → puts past ≡ gots past ++ message_under_way (Some v) → FitsSigned w32 v
       → Carries (past ++ d ∷ []) (data_of None now) u
   get v now u current users order fits =
       let mid : Core = record at { users = set_in at.users 2 3 v } in
@@ -207,7 +207,7 @@ module _ (sets : SetsAreFound) (y : System) (r : RunsMailbox y) where
 
   -- the code of a dispatch, from data that is known
   abbrev Does : (k cause edata : ℕ) → List Dispatch → Core → C0State → Type 0
-  Does k cause edata past at s = Ends (setting_of mailbox y.boot.params) 400
+  Does k cause edata past at s = EndsIn (setting_of mailbox y.boot.params) 400
       (begin 0 (part (int (pos cause)) (part (int (signed edata)) (part (int (pos at.current)) empty))) ∷ []) (beginning (record s { frames = [] }) (machines_of y.boot.params at)) (KeptAt y Carries k cause edata past at)
 
   keeps : (k cause edata : ℕ) (past : List Dispatch) (at : Core) (s : C0State) → at.c0 ≡ s → Does k cause edata past at s → Keeps y 400 Carries k cause edata past at
@@ -235,7 +235,7 @@ module _ (sets : SetsAreFound) (y : System) (r : RunsMailbox y) where
   few_who at = let less = mod-lt at.current {m = 2} (omega arith) in let two = r.two in omega (arith, less, two)
 
   -- A LINE is taken: the other user is next
-  lined : (k mask : ℕ) (past : List Dispatch) (at : Core) (w : Option ℤ) (old : ℤ) → puts past ≡ gots past ++ under_way w → EachHas IsAnswered [] past → IsIntOr w → Does (suc k) 1 mask past at (data_of w old)
+  lined : (k mask : ℕ) (past : List Dispatch) (at : Core) (w : Option ℤ) (old : ℤ) → puts past ≡ gots past ++ message_under_way w → EachHas IsAnswered [] past → IsIntOr w → Does (suc k) 1 mask past at (data_of w old)
   lined k mask past at None old order answered fits =
       rw has_room (answers_user y Carries (suc k) 1 mask past at _ (who at) (answers_who at) (some_who at) (few_who at) (quiet past _ None old (who at) order answered fits refl refl))
   lined k mask past at (Some m) old order answered fits =
@@ -258,7 +258,7 @@ module _ (sets : SetsAreFound) (y : System) (r : RunsMailbox y) where
     few : at.current ≤ length y.boot.users
     few = subst (λ n. at.current ≤ n) fit.count user.1
 
-    puts_one : (w : Option ℤ) (old : ℤ) → at.current ≡ 1 → puts past ≡ gots past ++ under_way w → IsIntOr w → Does (suc k) 6 edata past at (data_of w old)
+    puts_one : (w : Option ℤ) (old : ℤ) → at.current ≡ 1 → puts past ≡ gots past ++ message_under_way w → IsIntOr w → Does (suc k) 6 edata past at (data_of w old)
     puts_one None old current order fits =
         let first : int_eq (pos at.current) (pos 1) ≡ true = rw current refl in
         let there : nat_le 1 (length at.users) ≡ true = rw two refl in
@@ -268,7 +268,7 @@ module _ (sets : SetsAreFound) (y : System) (r : RunsMailbox y) where
         rw (has_room, first, from, to) (answers_user y Carries (suc k) 6 edata past at _ (who at) (answers_who at) (some_who at) (few_who at)
         (put_waits sets past _ at refl refl two long answered v old (who at) current refl order fits))
 
-    gets_two : (w : Option ℤ) (old : ℤ) → at.current ≡ 2 → puts past ≡ gots past ++ under_way w → IsIntOr w → Does (suc k) 6 edata past at (data_of w old)
+    gets_two : (w : Option ℤ) (old : ℤ) → at.current ≡ 2 → puts past ≡ gots past ++ message_under_way w → IsIntOr w → Does (suc k) 6 edata past at (data_of w old)
     gets_two None old current order fits =
         let second : int_eq (pos at.current) (pos 1) ≡ false = rw current refl in
         rw (has_room, second, from, to) (answers_user y Carries (suc k) 6 edata past at _ (who at) (answers_who at) (some_who at) (few_who at)
@@ -280,7 +280,7 @@ module _ (sets : SetsAreFound) (y : System) (r : RunsMailbox y) where
         rw (has_room, second, there, from, still) (answers_user y Carries (suc k) 6 edata past at _ at.current refl user.0 few
         (get sets past _ at refl refl two long answered v v at.current current refl order fits))
 
-    called : (w : Option ℤ) (old : ℤ) → puts past ≡ gots past ++ under_way w → IsIntOr w → Does (suc k) 6 edata past at (data_of w old)
+    called : (w : Option ℤ) (old : ℤ) → puts past ≡ gots past ++ message_under_way w → IsIntOr w → Does (suc k) 6 edata past at (data_of w old)
     called w old order fits = by (at.current == 1) refl
       where
         by : (b : Bool) → (at.current == 1) ≡ b → Does (suc k) 6 edata past at (data_of w old)
@@ -289,7 +289,7 @@ module _ (sets : SetsAreFound) (y : System) (r : RunsMailbox y) where
 
   -- A TRAP
   trapped : (k : ℕ) (cause : Cause) (edata : ℕ) (past : List Dispatch) (at : Core) → IsTrap cause → Shaped y at → IsUser at at.current → (w : Option ℤ) (old : ℤ)
-      → puts past ≡ gots past ++ under_way w → EachHas IsAnswered [] past → IsIntOr w → Does (suc k) (cause_number cause) edata past at (data_of w old)
+      → puts past ≡ gots past ++ message_under_way w → EachHas IsAnswered [] past → IsIntOr w → Does (suc k) (cause_number cause) edata past at (data_of w old)
   trapped k causes.Reset edata past at trap fit user w old order answered fits = absurd trap
   trapped k causes.External edata past at trap fit user w old order answered fits = absurd trap
   trapped k causes.Syscall edata past at trap fit user w old order answered fits = called k edata past at fit user answered w old order fits

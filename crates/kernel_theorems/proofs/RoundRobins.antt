@@ -19,10 +19,10 @@ use Rattle.cvm_model.specs.KernelMeaning.{Machines, setting_of, machines_of}
 use Rattle.cvm_model.specs.Cvm.{System, Cvm, first_core}
 use Rattle.cvm_model.specs.declared.row.Next.TheVariants.{User}
 use Rattle.cvm_model.specs.declared.row.Row.{Row}
-use Rattle.cvm_model.specs.Invariant.{Dispatch, row_of, rows_of, IsTrap, Keeps, IsInvariant, Holds, HasUsers, dispatches_of, RunsAreLawful}
+use Rattle.cvm_model.specs.Invariant.{Dispatch, dispatch_row, dispatch_rows, IsTrap, Keeps, IsInvariant, Holds, HasUsers, dispatches_of, RunsAreLawful}
 use Rattle.cvm_model.proofs.Invariants.{invariants_hold}
 use Rattle.kernel_theorems.proofs.Answering.{rows_join, keeps_as, answers_user}
-use Rattle.kernel_theorems.specs.RoundRobin.{round_robin, data_of, lines_of, lines_in, turn_after, InOrder, Turns, RunsRoundRobin, IsFair, RoundRobinIsFair}
+use Rattle.kernel_theorems.specs.RoundRobin.{round_robin, data_of, taken_lines, lines_in, turn_after, InOrder, Turns, RunsRoundRobin, IsFair, RoundRobinIsFair}
 
 -- where a dispatch ends: its answer and its data
 abbrev ends : ℕ → ℤ → C0State → Machines → Outcome Machines Changes
@@ -55,14 +55,14 @@ next_turn users n =
 small : (n : ℕ) → n < 65 → int_wrap w32 (pos n) ≡ pos n
 small n h = int_wrap_fits w32 (pos n) (record { sfits = omega arith })
 
-lines_more : (rows : List Row) (r : Row) → lines_in (rows ++ r ∷ []) ≡ lines_of r + lines_in rows
+lines_more : (rows : List Row) (r : Row) → lines_in (rows ++ r ∷ []) ≡ taken_lines r + lines_in rows
 lines_more [] r = refl
 lines_more (s ∷ rest) r = let e = lines_more rest r in omega (arith, e)
 
-order_more : (users before : ℕ) (rows : List Row) (r : Row) → InOrder users before rows → r.next ≡ User (turn_after users (lines_of r + (lines_in rows + before))) → InOrder users before (rows ++ r ∷ [])
+order_more : (users before : ℕ) (rows : List Row) (r : Row) → InOrder users before rows → r.next ≡ User (turn_after users (taken_lines r + (lines_in rows + before))) → InOrder users before (rows ++ r ∷ [])
 order_more users before [] r h e = (e ∙ ap (λ n. User (turn_after users n)) (omega arith), tt)
 order_more users before (s ∷ rest) r h e =
-    (h.0, order_more users (lines_of s + before) rest r h.1 (e ∙ ap (λ n. User (turn_after users n)) (omega arith)))
+    (h.0, order_more users (taken_lines s + before) rest r h.1 (e ∙ ap (λ n. User (turn_after users n)) (omega arith)))
 
 abbrev counts : ℕ → ℕ
 counts cause = if cause == 1 then 1 else 0
@@ -78,23 +78,23 @@ module _ (y : System) (u : ℕ) (r : RunsRoundRobin y (suc u)) where
   keeps : (k cause edata : ℕ) (past : List Dispatch) (at : Core) (n a : ℕ) (s : C0State) (services : ℤ) → at.c0 ≡ s
       → dispatch (setting_of (round_robin (suc u)) y.boot.params) 100 (pos cause) (signed edata) (pos at.current) s (machines_of y.boot.params at)
       ≡ ends n (pos (suc a)) (data_of (pos (suc a)) services) (machines_of y.boot.params at)
-      → a ≡ (counts cause + lines_in (rows_of past)) % suc u → InOrder (suc u) 0 (rows_of past) → Keeps y 100 (Turns (suc u)) k cause edata past at
+      → a ≡ (counts cause + lines_in (dispatch_rows past)) % suc u → InOrder (suc u) 0 (dispatch_rows past) → Keeps y 100 (Turns (suc u)) k cause edata past at
   keeps k cause edata past at n a s services data_is e is order =
-      let less : a < suc u = rw is (mod-lt (counts cause + lines_in (rows_of past)) (omega arith)) in
+      let less : a < suc u = rw is (mod-lt (counts cause + lines_in (dispatch_rows past)) (omega arith)) in
       let few : suc a ≤ length y.boot.users = rw r.users_are (omega (arith, less)) in
       keeps_as y (round_robin (suc u)) r.meaning_is 100 (Turns (suc u)) k cause edata past at s _ data_is e
       (answers_user y (Turns (suc u)) k cause edata past at _ (suc a) refl (omega arith) few (turns _ (suc a) refl refl))
     where
-      turns : (d : Dispatch) (b : ℕ) → row_of d ≡ record { turn = k; cause = cause; edata = edata; user = at.current; next = User (suc a) } → b ≡ suc a
+      turns : (d : Dispatch) (b : ℕ) → dispatch_row d ≡ record { turn = k; cause = cause; edata = edata; user = at.current; next = User (suc a) } → b ≡ suc a
           → Turns (suc u) (past ++ d ∷ []) (data_of (pos b) services) b
       turns d b row e =
-          let rows : rows_of (past ++ d ∷ []) ≡ rows_of past ++ record { turn = k; cause = cause; edata = edata; user = at.current; next = User (suc a) } ∷ [] =
-          rows_join past d ∙ ap (λ (x : Row). rows_of past ++ x ∷ []) row in
+          let rows : dispatch_rows (past ++ d ∷ []) ≡ dispatch_rows past ++ record { turn = k; cause = cause; edata = edata; user = at.current; next = User (suc a) } ∷ [] =
+          rows_join past d ∙ ap (λ (x : Row). dispatch_rows past ++ x ∷ []) row in
           record {
             services = services;
             data_is = refl;
-            current_is = e ∙ ap suc is ∙ ap (turn_after (suc u)) (sym (ap lines_in rows ∙ lines_more (rows_of past) _));
-            order = subst (InOrder (suc u) 0) (sym rows) (order_more (suc u) 0 (rows_of past) _ order (ap User (ap suc is ∙ ap (turn_after (suc u)) (omega arith))));
+            current_is = e ∙ ap suc is ∙ ap (turn_after (suc u)) (sym (ap lines_in rows ∙ lines_more (dispatch_rows past) _));
+            order = subst (InOrder (suc u) 0) (sym rows) (order_more (suc u) 0 (dispatch_rows past) _ order (ap User (ap suc is ∙ ap (turn_after (suc u)) (omega arith))));
           }
 
   invariant : IsInvariant y 100 (HasUsers y) (Turns (suc u))
@@ -106,11 +106,11 @@ module _ (y : System) (u : ℕ) (r : RunsRoundRobin y (suc u)) where
         let less : a < suc u = mod-lt at.current (omega arith) in
         let few : suc u ≤ 64 = r.few in
         let wrapped : int_wrap w32 (pos (a + 1)) ≡ pos (suc a) = small (a + 1) (omega arith) ∙ ap pos (omega arith) in
-        let is : a ≡ (1 + lines_in (rows_of past)) % suc u = ap (λ c. c % suc u) h.current_is ∙ next_turn u (lines_in (rows_of past)) ∙ ap (λ c. c % suc u) (omega arith) in
+        let is : a ≡ (1 + lines_in (dispatch_rows past)) % suc u = ap (λ c. c % suc u) h.current_is ∙ next_turn u (lines_in (dispatch_rows past)) ∙ ap (λ c. c % suc u) (omega arith) in
         keeps (suc k) 1 mask past at 28 a (data_of (pos at.current) h.services) h.services h.data_is
         (line u y.boot.params r.room (signed mask) _ at.current h.services ∙ ap (λ v. ends 28 v (data_of v h.services) (machines_of y.boot.params at)) wrapped) is h.order;
     trap = λ k cause edata past before at came fit user h.
-        let a : ℕ = lines_in (rows_of past) % suc u in
+        let a : ℕ = lines_in (dispatch_rows past) % suc u in
         let more : ℤ = int_wrap w32 (h.services +ℤ pos 1) in
         keeps (suc k) (cause_number cause) edata past at 23 a (data_of (pos at.current) h.services) more h.data_is
         (trap u y.boot.params r.room (signed edata) _ cause came.is at.current h.services ∙ ap (λ v. ends 23 (pos v) (data_of (pos v) more) (machines_of y.boot.params at)) h.current_is)

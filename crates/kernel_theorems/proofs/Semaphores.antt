@@ -8,7 +8,7 @@ use Rattle.std.proofs.lemmas.Bool.{le-ltb, eqb-true, eq-eqb, ne_eqb}
 use Rattle.std.proofs.lemmas.Int.{int_wrap_fits}
 use Rattle.mips_table.specs.declared.cause.Cause.TheVariants as causes
 use Rattle.kernel_theorems.proofs.ForKernels.{signed, Cause, cause_number, int, Core, KernelMeaning, user_of, IsUser, System, first_core, Next, Dispatch, IsTrap, IsInvariant, Shaped, RunsAreLawful, invariants_hold}
-use Rattle.kernel_theorems.proofs.ForKernels.{calls, set_in, SetsAreFound, EachHas, each_more, told_more, not_both, left_of, and_false, by_test, by_same, by_equal, small_fits, Caller, caller, AnsweredCall, answered_call, quiet_dispatch, Does, keeps_from, to_user}
+use Rattle.kernel_theorems.proofs.ForKernels.{is_call_of, set_in, SetsAreFound, EachHas, each_more, told_more, not_both, left_of, and_false, by_test, by_same, by_equal, small_fits, Caller, caller, AnsweredCall, answered_call, quiet_dispatch, Does, keeps_from, to_user}
 use Rattle.kernel_theorems.specs.SemaphoreTree.{semaphore}
 use Rattle.kernel_theorems.specs.Semaphore.{data_of, asks, inside_after, inside, IsAnswered, Between, Runs, AtMostOneIsInside}
 
@@ -59,7 +59,7 @@ module _ (sets : SetsAreFound) (y : System) (r : Runs y) where
         let found = c.found at.current same in
         let nobody : (v : ℕ) → 1 ≤ v → (who == v) ≡ false = λ v some. ne_eqb who v (λ s. omega (arith, s, none, some)) in
         between past (call o next) who at.current u h (now o next at.current (rw (same, e, found) refl) (λ v some other. nobody v some ∙ sym (ne_eqb at.current v other))) answered
-        (record { free = λ v some asked out. c.found v (left_of (calls v (call o next)) _ asked); taken = λ v w some other asked in_w. absurd (not_both (inside w past) in_w (h w other ∙ nobody w other)); others = c.others })
+        (record { free = λ v some asked out. c.found v (left_of (is_call_of v (call o next)) _ asked); taken = λ v w some other asked in_w. absurd (not_both (inside w past) in_w (h w other ∙ nobody w other)); others = c.others })
 
     -- somebody is: it is not
     kept_out : (o : Core) (next : Next) (u : ℕ) → int_eq (signed edata) (pos 12) ≡ true → who ≢ 0 → o.users ≡ set_in at.users at.current 2 (pos 0) → Between (past ++ call o next ∷ []) (data_of (record { owner = pos who })) u
@@ -69,7 +69,7 @@ module _ (sets : SetsAreFound) (y : System) (r : Runs y) where
         let found = c.found at.current same in
         let one : 1 ≤ who = omega (arith, some) in
         between past (call o next) who who u h (now o next who (rw (same, e, found) refl) (λ v few other. refl)) answered
-        (record { free = λ v few asked out. absurd (not_both (inside who past) (h who one ∙ eq-eqb who who refl) (out who one)); taken = λ v w few other asked in_w. c.found v (left_of (calls v (call o next)) _ asked); others = c.others })
+        (record { free = λ v few asked out. absurd (not_both (inside who past) (h who one ∙ eq-eqb who who refl) (out who one)); taken = λ v w few other asked in_w. c.found v (left_of (is_call_of v (call o next)) _ asked); others = c.others })
 
     -- it doesn't ask
     unheard : (o : Core) (next : Next) (new u : ℕ) → int_eq (signed edata) (pos 12) ≡ false → (if int_eq (signed edata) (pos 76) then false else (who == at.current)) ≡ (new == at.current)

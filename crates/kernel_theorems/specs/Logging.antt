@@ -13,13 +13,13 @@ use Rattle.kernel_theorems.specs.History.{EachHas}
 use Rattle.kernel_theorems.specs.LoggingTree.{logging}
 
 -- the words of the numbers below one
-abbrev pub below : ℕ → List ℕ
-below zero = []
-below (suc n) = below n ++ cast_unsigned w32 (pos n) ∷ []
+abbrev pub words_below : ℕ → List ℕ
+words_below zero = []
+words_below (suc n) = words_below n ++ cast_unsigned w32 (pos n) ∷ []
 
 -- a dispatch logs the numbers below the current user's, as many as the log has room for
 abbrev pub Logs : List Dispatch → Dispatch → Type 0
-Logs past d = d.after.console.log ≡ take LOG_ROOM (d.before.console.log ++ below d.before.current)
+Logs past d = d.after.console.log ≡ take LOG_ROOM (d.before.console.log ++ words_below d.before.current)
 
 -- the values in its data: its global, and its heap with the words used of it
 pub record Data : Type 0 where

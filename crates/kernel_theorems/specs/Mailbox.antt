@@ -7,17 +7,17 @@ use Rattle.std.specs.Ordering.{int_eq}
 use Rattle.c0_meaning.specs.Value.{Value, int, group, empty, part}
 use Rattle.c0_meaning.specs.State.{C0State}
 use Rattle.kernel_theorems.specs.Lines.{by_lines}
-use Rattle.kernel_theorems.specs.Registers.{int_held, calls}
+use Rattle.kernel_theorems.specs.Registers.{int_held, is_call_of}
 use Rattle.kernel_theorems.specs.History.{EachHas}
 use Rattle.cvm_model.specs.KernelMeaning.{kernel_meaning}
 use Rattle.cvm_model.specs.Primitives.{user_of}
 use Rattle.cvm_model.specs.Cvm.{System, Cvm, IsCvm}
-use Rattle.cvm_model.specs.Invariant.{Dispatch, rows_of, dispatches_of, HasEight, HasRoom, IsSafe}
+use Rattle.cvm_model.specs.Invariant.{Dispatch, dispatch_rows, dispatches_of, HasEight, HasRoom, IsSafe}
 use Rattle.kernel_theorems.specs.MailboxTree.{mailbox}
 
 -- whether a user called, and finds 1 in its register 2: its put was taken, or it was given a message
 abbrev pub succeeds : ℕ → Dispatch → Bool
-succeeds user d = calls user d && int_eq (int_held d.after user 2) (pos 1)
+succeeds user d = is_call_of user d && int_eq (int_held d.after user 2) (pos 1)
 
 -- what user 1 puts by a dispatch: its register 4, where it is told that this was taken
 abbrev pub put_by : Dispatch → List ℤ
@@ -43,19 +43,19 @@ waits past = nat_lt (length (gots past)) (length (puts past))
 -- A CALL IS ANSWERED: a put is taken where no message is under way, and a get is given one where one is. All other users keep their machines, so that
 -- what a user was answered stands in its registers until it goes on, whatever lines come between.
 pub record IsAnswered (past : List Dispatch) (d : Dispatch) : Type 0 where
-  pub put : calls 1 d ≡ true → int_held d.after 1 2 ≡ (if waits past then pos 0 else pos 1)
-  pub get : calls 2 d ≡ true → int_held d.after 2 2 ≡ (if waits past then pos 1 else pos 0)
-  pub others : (u : ℕ) → 1 ≤ u → calls u d ≡ false → user_of d.after.users u ≡ user_of d.before.users u
+  pub put : is_call_of 1 d ≡ true → int_held d.after 1 2 ≡ (if waits past then pos 0 else pos 1)
+  pub get : is_call_of 2 d ≡ true → int_held d.after 2 2 ≡ (if waits past then pos 1 else pos 0)
+  pub others : (u : ℕ) → 1 ≤ u → is_call_of u d ≡ false → user_of d.after.users u ≡ user_of d.before.users u
 
 -- the message under way, as a list
-abbrev pub under_way : Option ℤ → List ℤ
-under_way None = []
-under_way (Some v) = v ∷ []
+abbrev pub message_under_way : Option ℤ → List ℤ
+message_under_way None = []
+message_under_way (Some v) = v ∷ []
 
 -- DELIVERED: what was put is what was got, in order and unchanged, and behind it at most one that is under way; and each call is answered
 pub record Delivers (past : List Dispatch) : Type 0 where
   pub way : Option ℤ
-  pub in_order : puts past ≡ gots past ++ under_way way
+  pub in_order : puts past ≡ gots past ++ message_under_way way
   pub answered : EachHas IsAnswered [] past
 
 -- its data: whether a message is under way, and the last message
@@ -95,7 +95,7 @@ pub record RunsMailbox (y : System) : Type 0 where
 -- a state of a run: no dispatch has faulted, its rows are those of these dispatches, and what was put in them is delivered
 pub record IsDelivered (past : List Dispatch) (c : Cvm) : Type 0 where
   pub safe : IsSafe c.status
-  pub rows : c.rows ≡ rows_of past
+  pub rows : c.rows ≡ dispatch_rows past
   pub delivers : Delivers past
 
 -- THE THEOREM: whatever the users do, whatever lines are raised, each turn ends, no dispatch faults, and by the run's dispatches what user 2 was given is

@@ -12,8 +12,8 @@ abbrev pub int_held : Core → (user register : ℕ) → ℤ
 int_held c user register = signed (slice_index (user_of c.users user).cpu.regs register)
 
 -- whether a dispatch is for a system call of a user
-abbrev pub calls : ℕ → Dispatch → Bool
-calls user d = d.cause == 6 && d.before.current == user
+abbrev pub is_call_of : ℕ → Dispatch → Bool
+is_call_of user d = d.cause == 6 && d.before.current == user
 
 -- these machines after `vm_set`
 abbrev pub set_in : List Flat → (user register : ℕ) → ℤ → List Flat

@@ -9,7 +9,7 @@ use Rattle.cvm_model.specs.KernelMeaning.{kernel_meaning}
 use Rattle.cvm_model.specs.Primitives.{user_of}
 use Rattle.cvm_model.specs.Cvm.{System, Cvm, IsCvm}
 use Rattle.cvm_model.specs.Invariant.{Dispatch, dispatches_of, HasEight, HasRoom, Holds}
-use Rattle.kernel_theorems.specs.Registers.{int_held, calls}
+use Rattle.kernel_theorems.specs.Registers.{int_held, is_call_of}
 use Rattle.kernel_theorems.specs.History.{EachHas, told_by}
 use Rattle.kernel_theorems.specs.SemaphoreTree.{semaphore}
 
@@ -26,10 +26,10 @@ first = record { owner = pos 0 }
 
 -- a user asks to be let in: it calls with the word 0000000c; it says that it leaves: with the word 0000004c
 abbrev pub asks : ℕ → Dispatch → Bool
-asks user d = calls user d && int_eq (signed d.edata) (pos 12)
+asks user d = is_call_of user d && int_eq (signed d.edata) (pos 12)
 
 abbrev pub leaves : ℕ → Dispatch → Bool
-leaves user d = calls user d && int_eq (signed d.edata) (pos 76)
+leaves user d = is_call_of user d && int_eq (signed d.edata) (pos 76)
 
 -- whether a user is inside after a dispatch, where it was so before: one that asked is let in where it finds 1 in its register 2
 abbrev pub inside_after : ℕ → Bool → Dispatch → Bool
@@ -47,7 +47,7 @@ AtMostOne past = (u v : ℕ) → 1 ≤ u → 1 ≤ v → inside u past ≡ true 
 pub record IsAnswered (past : List Dispatch) (d : Dispatch) : Type 0 where
   pub free : (u : ℕ) → 1 ≤ u → asks u d ≡ true → ((v : ℕ) → 1 ≤ v → inside v past ≡ false) → int_held d.after u 2 ≡ pos 1
   pub taken : (u v : ℕ) → 1 ≤ u → 1 ≤ v → asks u d ≡ true → inside v past ≡ true → int_held d.after u 2 ≡ pos 0
-  pub others : (u : ℕ) → 1 ≤ u → calls u d ≡ false → user_of d.after.users u ≡ user_of d.before.users u
+  pub others : (u : ℕ) → 1 ≤ u → is_call_of u d ≡ false → user_of d.after.users u ≡ user_of d.before.users u
 
 -- WHAT IS SO between dispatches: at most one user is inside, each call was answered, and the kernel's owner is who is inside
 pub record Between (past : List Dispatch) (s : C0State) (current : ℕ) : Type 0 where

@@ -3,10 +3,10 @@
 
 ghost use Rattle.kernel_theorems.specs.Text.{ProgramTextsMeanTrees, TextsMeanTrees};
 
-use c0_meaning::program_laws::programs_ignore_places;
+use c0_meaning::program_laws::programs_ignore_spans;
 use c0_parser::sources_read_by_walks;
 use c0_types::laws::{programs_have_one_answer, sources_have_one_answer};
-use cvm_model::reasoning::meanings_ignore_places;
+use cvm_model::reasoning::meanings_ignore_spans;
 
 pub mod guarded;
 pub mod logging;
@@ -22,7 +22,7 @@ pub fn texts_mean_trees()
 {
     sources_read_by_walks();
     sources_have_one_answer();
-    meanings_ignore_places();
+    meanings_ignore_spans();
 }
 
 /// A law: so does a user program's text.
@@ -31,5 +31,5 @@ pub fn program_texts_mean_trees()
 {
     sources_read_by_walks();
     programs_have_one_answer();
-    programs_ignore_places();
+    programs_ignore_spans();
 }

@@ -6,7 +6,7 @@ use Rattle.mips_table.specs.Device.{sector_of}
 use Rattle.mips_table.specs.Machine.{State, zero_cpu}
 use Rattle.mips_table.specs.Flat.{Flat}
 use Rattle.page_model.specs.Paging.{IsUserFrame, MapsTo, Protected, counted_entries, shown_word, Paged, Pages, Listed, PagingInvariant}
-use Rattle.page_model.specs.Places.{page_layout}
+use Rattle.page_model.specs.TableLayout.{page_layout}
 use Rattle.cvm_model.specs.Paged.{paged_of, pages_by}
 use Rattle.layer_contract.specs.Samples.{spread_word, spread_map, AreSpread}
 

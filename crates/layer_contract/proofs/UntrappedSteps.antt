@@ -10,7 +10,7 @@ use Rattle.mips_table.specs.Machine.{State}
 use Rattle.mips_table.specs.Fits.{CpuFits, Fits}
 use Rattle.layer_map.specs.Map.{Map, current_at, heap_used_at, block_at, globals_at, heap_at, tables_at, frame_table_at, zero_frame_at, memory_words}
 use Rattle.page_model.specs.Paging.{PagingInvariant}
-use Rattle.page_model.specs.Places.{page_layout}
+use Rattle.page_model.specs.TableLayout.{page_layout}
 use Rattle.c0_meaning.specs.RunLaws.{scalars}
 use Rattle.cvm_model.specs.Kernel.{flat, Core}
 use Rattle.cvm_model.specs.Primitives.{no_flat, user_of, with_user, pages_of}
@@ -18,7 +18,7 @@ use Rattle.cvm_model.specs.Cvm.{Running}
 use Rattle.cvm_model.specs.Paged.{paged_of, pages_by}
 use Rattle.cvm_model.specs.Stands.{Site, address_of, UserFits, block_cpu, runs_user, RunningRelation}
 use Rattle.layer_contract.proofs.ResetState.{flat_length}
-use Rattle.layer_contract.proofs.Places.{own, Known, Sizes, sizes_of, user_fits}
+use Rattle.layer_contract.proofs.AddressesStand.{own, Known, Sizes, sizes_of, user_fits}
 
 -- the state of the CVM with the current user's machine replaced
 abbrev pub with_current : Core → Flat → Core

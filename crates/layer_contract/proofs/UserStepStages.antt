@@ -8,7 +8,7 @@ use Rattle.mips_table.specs.declared.cause.Cause.TheVariants as causes
 use Rattle.mips_table.specs.declared.effect.Effect.{Effect}
 use Rattle.mips_table.specs.declared.effect.Effect.TheVariants.{Set, Wide, Load, Store, Overflow, Call, System}
 use Rattle.mips_table.specs.Decoding.{decoding}
-use Rattle.mips_table.specs.Effect.{next}
+use Rattle.mips_table.specs.Effect.{next_address}
 use Rattle.mips_table.specs.Processor.{is_aligned, went_on, advanced, effect_on}
 use Rattle.mips_table.specs.Device.{Environment, settled, disk_counted}
 use Rattle.mips_table.specs.declared.special.TheConstants.{PTL}
@@ -24,10 +24,10 @@ use Rattle.cvm_model.specs.Primitives.{user_of}
 use Rattle.cvm_model.specs.Paged.{paged_of}
 use Rattle.cvm_model.specs.Stands.{Site}
 use Rattle.layer_contract.specs.Layer.{page_at}
-use Rattle.layer_contract.proofs.Places.{own, Place, Past, Faults, There, Known, place}
-use Rattle.layer_contract.proofs.Frames.{word_is}
+use Rattle.layer_contract.proofs.AddressesStand.{own, Place, Past, Faults, There, Known, place}
+use Rattle.layer_contract.proofs.WordsInFrames.{word_is}
 use Rattle.layer_contract.proofs.UntrappedSteps.{After}
-use Rattle.layer_contract.proofs.Steps.{ran, stores}
+use Rattle.layer_contract.proofs.PlainSteps.{ran, stores}
 
 -- an access, by its tests
 misaligned : (may : Bool) (m r : Cause) (a pc : ℕ) (go : Move) → is_aligned a ≡ false → accessed may m r a pc go ≡ Trapped m a pc
@@ -186,8 +186,8 @@ module _ (x : Environment) (y : Site) (s : State) (c : Core) (k : Known x y s c)
       by true e = saves (advanced s.cpu) address value e
       by false e = crooked (is_some (located s true address)) (nat_lt (address / 4) (length (own c))) causes.DataAlign causes.DataFault address
           (Stored (advanced s.cpu) address value) (Stored (advanced s.cpu) address value) e
-  performs word Overflow = traps causes.Overflow word (next s.cpu.pc)
-  performs word Call = traps causes.Syscall word (next s.cpu.pc)
+  performs word Overflow = traps causes.Overflow word (next_address s.cpu.pc)
+  performs word Call = traps causes.Syscall word (next_address s.cpu.pc)
   performs word System = asks word
 
   -- the instruction

@@ -18,13 +18,13 @@ entered zero s = None
 entered (suc k) s = if is_on s && in_system s.special && s.cpu.pc == layer_entry (Primitive k) then Some (slice_index s.cpu.regs RETURN) else entered k s
 
 -- the return address of the primitive that is under way
-abbrev pub goes_on : State → Option ℕ → Option ℕ
-goes_on s None = entered 10 s
-goes_on s (Some back) = if s.cpu.pc == back then None else Some back
+abbrev pub return_address : State → Option ℕ → Option ℕ
+return_address s None = entered 10 s
+return_address s (Some back) = if s.cpu.pc == back then None else Some back
 
 abbrev pub under_way : Environment → State → ℕ → Option ℕ
 under_way x s zero = None
-under_way x s (suc t) = goes_on (run x s (suc t)) (under_way x s t)
+under_way x s (suc t) = return_address (run x s (suc t)) (under_way x s t)
 
 -- 1 where the primitive ends here
 abbrev pub ends_here : State → Option ℕ → ℕ

@@ -1,2 +1,2 @@
-pub mod Through
-pub mod Machine
+pub mod CopyThrough
+pub mod CopyOnMachine

@@ -4,7 +4,7 @@ use Rattle.mips_table.specs.declared.inst.Inst.{Inst}
 use Rattle.mips_table.specs.Device.{Idle}
 use Rattle.mips_table.specs.Code.{Contents, Behind, World, CodeState, at_with, Reaches, CodeAt}
 use Rattle.page_model.specs.Paging.{Pages}
-use Rattle.page_model.specs.Places.{Places}
+use Rattle.page_model.specs.TableLayout.{TableLayout}
 use Rattle.page_fault.specs.Code.{handle_page_code}
 use Rattle.masm.specs.declared.registers.TheConstants.{RETURN}
 use Rattle.cvm_primitives.specs.declared.roles.TheConstants.{LENGTH}
@@ -24,7 +24,7 @@ pub record Through (w : World) (is : List Inst) (n : ℕ) (c0 : Contents) (d0 : 
   pub by : (k : ℕ) (c : Contents) (d : Behind) → CodeAt w k is → (c ≡ c0) × (d ≡ d0) → Met w is n k c d Q
 
 -- how a copy of n words from x to y comes by its last piece, with all words copied but those of the last page, and what its end shows of frames
-pub record CopyPassed (p : Places) (v : Pages) (x y n : ℕ) (c : Contents) (d : Behind) (t : CodeState) (c' : Contents) (d' : Behind) : Type 0 where
+pub record CopyPassed (p : TableLayout) (v : Pages) (x y n : ℕ) (c : Contents) (d : Behind) (t : CodeState) (c' : Contents) (d' : Behind) : Type 0 where
   pub held : PagesHeld p (copied v x y (n - 1024)) (entry_state c d) t.contents t.behind
   pub first : n ≡ 1024 → t.contents.memory ≡ c.memory
   pub shared : LastShared p x y n c' t.contents.memory
@@ -33,6 +33,6 @@ pub record CopyPassed (p : Places) (v : Pages) (x y n : ℕ) (c : Contents) (d :
 
 -- vm_copy with good arguments, whose last piece is a whole page, comes by that piece
 abbrev pub CopyPasses : World → Type 0
-CopyPasses w = (p : Places) (b users per : ℕ) (size : ℕ → ℕ) (v : Pages) (c : Contents) (d : Behind) →
+CopyPasses w = (p : TableLayout) (b users per : ℕ) (size : ℕ → ℕ) (v : Pages) (c : Contents) (d : Behind) →
     EnteredOnPages w p b users per size v c d → GoodCopy users size c → EndsWhole (first_word per c) (second_word per c) (c.regs LENGTH) →
     Through w (vm_copy_code p users per (handle_page_code p)) (copy_steps p b per c) c d (CopyPassed p v (first_word per c) (second_word per c) (c.regs LENGTH) c d)

@@ -4,28 +4,28 @@ use Rattle.mips_table.specs.Device.{Environment}
 use Rattle.mips_table.specs.Machine.{State, run}
 use Rattle.layer_map.specs.Map.{Map, memory_words}
 use Rattle.page_model.specs.Paging.{PagingInvariant}
-use Rattle.page_model.specs.Places.{page_layout, places_of}
+use Rattle.page_model.specs.TableLayout.{page_layout, table_layout}
 use Rattle.cvm_model.specs.Kernel.{Core}
 use Rattle.cvm_model.specs.Primitives.{VmCopy, is_good}
 use Rattle.cvm_model.specs.Paged.{paged_of, pages_by}
 use Rattle.cvm_model.specs.Stands.{Site}
 use Rattle.layer_contract.specs.Layer.{BusyWithin, PrimitiveCalled, ComesBack}
 use Rattle.cvm_primitives.specs.Copy.{copied}
-use Rattle.cvm_primitives.specs.View.{number, SharesFrame, FourOthers}
+use Rattle.cvm_primitives.specs.View.{number_of_word, SharesFrame, FourOthers}
 use Rattle.cvm_primitives.specs.Sharing.{EndsWhole, last_page}
 use Rattle.real_layer.specs.Image.{image_site, IsMade}
 
 -- the number of the word at address a of user u, among the words of all users
 abbrev pub word_number : Map → (u a : ℤ) → ℕ
-word_number m u a = number m.params.pages (nat_abs u) (nat_abs a)
+word_number m u a = number_of_word m.params.pages (nat_abs u) (nat_abs a)
 
 -- after a copy of n words from word p to word q the target's last page names the frame of the source's, both by valid entries
 abbrev pub SharedIn : Map → (p q n : ℕ) → State → Type 0
-SharedIn m p q n t = SharesFrame (places_of m) (last_page p n) (last_page q n) (slice_index t.memory)
+SharedIn m p q n t = SharesFrame (table_layout m) (last_page p n) (last_page q n) (slice_index t.memory)
 
 -- the source's last page names a user frame that four pages other than the target's name
 abbrev pub FullIn : Map → (p q n : ℕ) → State → Type 0
-FullIn m p q n t = FourOthers (places_of m) (last_page p n) (last_page q n) (slice_index t.memory)
+FullIn m p q n t = FourOthers (table_layout m) (last_page p n) (last_page q n) (slice_index t.memory)
 
 -- A copy of n words from word p to word q, begun in s, is back after so many steps. At a moment of it the machine stands for the users' memories with all
 -- words copied but those of the last page; in a copy of one page the map's words are then what they were in s. In the end that page is shared, unless at

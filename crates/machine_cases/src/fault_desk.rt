@@ -32,13 +32,13 @@ pub struct Desk {
 
 impl Model for Desk {
     ghost use Rattle.mips_machine.specs.Machine.{Held};
-    ghost use Rattle.machine_cases.specs.Desk.{Fits, PagesFit};
+    ghost use Rattle.machine_cases.specs.Desk.{DeskFits, PagesFit};
 
     ghost Value = { Held };
 
     ghost view = { λ d. d.machine };
 
-    ghost invariant = { λ d. Fits 65536 64 d.machine d.disk.sectors × PagesFit d.pages d.frames d.tables d.counts d.zeros };
+    ghost invariant = { λ d. DeskFits 65536 64 d.machine d.disk.sectors × PagesFit d.pages d.frames d.tables d.counts d.zeros };
 }
 
 // Appends a name and a number.

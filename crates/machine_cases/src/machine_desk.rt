@@ -27,13 +27,13 @@ pub struct Desk {
 
 impl Model for Desk {
     ghost use Rattle.mips_machine.specs.Machine.{Held};
-    ghost use Rattle.machine_cases.specs.Desk.{Fits};
+    ghost use Rattle.machine_cases.specs.Desk.{DeskFits};
 
     ghost Value = { Held };
 
     ghost view = { λ d. d.machine };
 
-    ghost invariant = { λ d. Fits 4096 8 d.machine d.disk.sectors };
+    ghost invariant = { λ d. DeskFits 4096 8 d.machine d.disk.sectors };
 }
 
 // Appends a name and a word.

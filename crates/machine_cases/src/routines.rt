@@ -5,7 +5,7 @@ use c0_runtime::emit_runtime;
 use c0_runtime::runtime::{DIVIDE, MULTIPLY, REMAINDER, RUNTIME_WORDS};
 use c0_tree::{AsmText, Span};
 use masm::copying::copy_words;
-use masm::registers::{ANSWER, ARGUMENTS, Places, RETURN, SCRATCH};
+use masm::registers::{ANSWER, ARGUMENTS, CodeAddresses, RETURN, SCRATCH};
 use masm::roles::{T0, T1, ZERO};
 use masm::waiting::wait_for_disk;
 use masm::{Block, block};
@@ -48,7 +48,7 @@ fn count() -> Block<4> {
 
 // What the routine that stands at a word answers on two operands: it is run until it returns, behind the routines, or for eight steps.
 fn answer(alloc: Global, routine: u32, left: u32, right: u32) -> Result<u32, AllocError> {
-    let places = Places {
+    let addresses = CodeAddresses {
         globals: 0,
         faults: [0, 0, 0, 0],
         multiply: 0,
@@ -59,7 +59,7 @@ fn answer(alloc: Global, routine: u32, left: u32, right: u32) -> Result<u32, All
         primitives: Vec::new(alloc),
     };
     let mut words = Vec::new(alloc);
-    emit_runtime(alloc, &places, &mut words)?;
+    emit_runtime(alloc, &addresses, &mut words)?;
     let mut memory = Flat { words };
     let mut cpu = Cpu {
         pc: routine.wrapping_mul(4),

@@ -1,6 +1,6 @@
-pub mod Asked
+pub mod WantedFiles
 pub mod Premises
-pub mod Resumed
-pub mod Stopped
+pub mod ResumeAnswers
+pub mod SaveAnswers
 pub mod SaveCalls
 pub mod ResumeCalls

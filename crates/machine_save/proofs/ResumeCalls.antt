@@ -40,22 +40,22 @@ use Rattle.boot_run.specs.Loading.{system_of}
 use Rattle.boot_run.specs.LoadEnds.{Kept, pages_needed}
 use Rattle.boot_run.specs.Pieces.{Bootable, FirstAt}
 use Rattle.boot_run.specs.Resuming.{taken_up, TakesUp}
-use Rattle.boot_run.specs.RunCalls.{run_at, begin_script, due_end, EndsBy, RestCalls}
+use Rattle.boot_run.specs.RunCalls.{run_at, begin_script, due_end, RunEndsBy, RestCalls}
 use Rattle.boot_run.specs.RunScript.{WasSaved, rest_script}
 use Rattle.boot_run.specs.SavedFiles.{wanted_of}
 use Rattle.boot_run.specs.SavedRuns.{SavedAt, IsDisk}
 use Rattle.boot_run.specs.Saving.{IsResumed, IsTakenUp}
-use Rattle.boot_run.specs.TurnCalls.{Around, around, Ready}
+use Rattle.boot_run.specs.TurnCalls.{Around, run_around, ReadyAt}
 use Rattle.boot_run.proofs.AbstractRuns.{turns_up_to}
 use Rattle.boot_run.proofs.TurnToTurn.{no_end}
 use Rattle.boot_run.proofs.GoScripts.{no_sooner}
-use Rattle.boot_run.proofs.Looping.{machines}
+use Rattle.boot_run.proofs.TurnLoop.{machines}
 use Rattle.boot_run.proofs.Rejoining.{first_of}
 use Rattle.machine_save.specs.Resume.{ResumesFile}
 use Rattle.machine_save.specs.ResumeCalls.{boot_over, RestPerformed, FileRuns, ResumeScript}
 use Rattle.machine_save.specs.SavedBoots.{AreTakenUp, CanBoot}
 use Rattle.machine_save.specs.declared.resuming.ResumeFault.{ResumeFault}
-use Rattle.machine_save.proofs.Resumed.{named_so, no_memory, one_answer, read_back}
+use Rattle.machine_save.proofs.ResumeAnswers.{named_so, no_memory, one_answer, read_back}
 
 -- what a call finds of a run, by its parts
 abbrev met : Option State → (steps budget turns current : ℕ) → Option Next → Option RunFault → Option Tracer → Around
@@ -71,7 +71,7 @@ met state steps budget turns current ended fault tracer = record {
 }
 
 around_is : {L : Type 0} (r : Kept L) → IsResumed r → (told : Option (List (List ℕ))) (left : List (List ℕ)) (budget : ℕ) →
-    told ≡ Some left → taken_up (state_of r.machine left) budget r.turns r.current ≡ around r told budget
+    told ≡ Some left → taken_up (state_of r.machine left) budget r.turns r.current ≡ run_around r told budget
 around_is r h told left budget is =
     ap (λ o. met (state_seen o r.machine) r.machine.time budget r.turns r.current None None None) (sym is)
     ∙ ap (λ e. met (state_seen told r.machine) r.machine.time budget r.turns r.current e None None) (sym h.ended)
@@ -84,9 +84,9 @@ abbrev RestAt : {L O D : Type 0} → sink_of.Ghosts O → sectors_of.Ghosts D �
 RestAt text told r b rows v size turns budget o d o1 d1 e =
     (y : System) (s : State) (late held : ℕ) (old : List (List ℕ)) (k t wanted steps : ℕ) (c : Cvm) → Bootable b rows size y s late held old →
     FirstAt (outside_of rows size) s k t → 1 ≤ wanted → k + turns ≡ wanted → budget + t ≡ steps →
-    Ready (outside_of rows size) y s v k t c (around r (told.sectors d) budget) → c.status ≡ Running →
+    ReadyAt (outside_of rows size) y s v k t c (run_around r (told.sectors d) budget) → c.status ≡ Running →
     (p : Past) → IsPast (run_at (outside_of rows size) y s v wanted steps) p →
-    EndsBy text told (o, d) (o1, d1) (begin_script (run_at (outside_of rows size) y s v wanted steps) k
+    RunEndsBy text told (o, d) (o1, d1) (begin_script (run_at (outside_of rows size) y s v wanted steps) k
     ++ rest_script (run_at (outside_of rows size) y s v wanted steps) p t) (due_end (run_at (outside_of rows size) y s v wanted steps) p) e
 
 -- what is no end of a run: other turns are complete, and the machine is on
@@ -203,7 +203,7 @@ module _ (law : ResumeLaws) (b : Booted) (rows : Rows) (turns steps count : ℕ)
   -- a run that was taken up of them stands where that one stood, and makes the rest of its script
   module _ {L : Type 0} (layer : L) (k : Kept L) (up : IsTakenUp layer b rows count words k) where
     stands : (told : Option (List (List ℕ))) (budget : ℕ) → told ≡ Some left →
-        Ready r.around r.system r.first Boot (suc few) made (cvm_at r p made) (around k told budget)
+        ReadyAt r.around r.system r.first Boot (suc few) made (cvm_at r p made) (run_around k told budget)
         × FirstAt r.around r.first (suc few) made
     unfolding at saved_at
     stands told budget tells =
@@ -211,14 +211,14 @@ module _ (law : ResumeLaws) (b : Booted) (rows : Rows) (turns steps count : ℕ)
         let h =
         law.takes r.around r.system r.first few made budget words left shown (state_of k.machine left) k.turns k.current
         (first_of law.steady r.system sectors) at named.ready named.sectors_are named.words_are in (
-          subst (λ (a : Around). Ready r.around r.system r.first Boot (suc few) made (cvm_at r p made) a)
+          subst (λ (a : Around). ReadyAt r.around r.system r.first Boot (suc few) made (cvm_at r p made) a)
               (around_is k up.resumed told left budget tells) h.0,
           h.1,
         )
 
     pub rest_there : {O D : Type 0} (text : sink_of.Ghosts O) (told : sectors_of.Ghosts D) (o o1 : O) (d d1 : D) (end : RunEnd) →
         told.sectors d ≡ Some left → RestAt text told k b rows Boot count (turns - k.turns) (steps - k.machine.time) o d o1 d1 end →
-        EndsBy text told (o, d) (o1, d1) (rest_script r p made) (due_end r p) end
+        RunEndsBy text told (o, d) (o1, d1) (rest_script r p made) (due_end r p) end
     rest_there text told o o1 d d1 end tells rests =
         let h = stands (told.sectors d) (steps - k.machine.time) tells in
         let time : k.machine.time ≡ made = h.0.steps in
@@ -269,7 +269,7 @@ module _ (law : ResumeLaws) {L O D : Type 0} (text : sink_of.Ghosts O) (told : s
   rest_so : (k : Kept L) (end : RunEnd) → ResumesFile layer b rows turns (told.size d) bytes (Ok k) →
       RestCalls text told k (turns - k.turns) (steps - k.machine.time) (o, d) (o1, d1) end →
       RestPerformed text told b rows turns steps bytes (o, d) (o1, d1) (Ok end)
-  rest_so k end (held, is, spelled, can, enough, up) calls = λ sectors left words p made room disk tells spells w one less.
+  rest_so k end (held, up, (is, spelled, can, enough)) calls = λ sectors left words p made room disk tells spells w one less.
       let back = read_so law b rows turns steps (told.size d) boots ups bits limit sectors left words p made room disk w one less bytes spells in
       let same : held ≡ words = one_answer (answer (wanted_of b rows turns) bytes) held words is back in
       let its = subst (λ (l : List ℕ). IsTakenUp layer b rows (told.size d) l k) same up in
@@ -279,7 +279,7 @@ module _ (law : ResumeLaws) {L O D : Type 0} (text : sink_of.Ghosts O) (told : s
   untold_so : (k : Kept L) (end : RunEnd) → ResumesFile layer b rows turns (told.size d) bytes (Ok k) →
       RestUntold text told k (turns - k.turns) (steps - k.machine.time) (o, d) (o1, d1) end → (words : List ℕ) (left : List (List ℕ)) →
       answer (wanted_of b rows turns) bytes ≡ Ok words → told.sectors d ≡ Some left → FileRuns text told b rows turns steps words left (o, d) (o1, d1) end
-  untold_so k end (held, is, spelled, can, enough, up) untold words left answers tells =
+  untold_so k end (held, up, (is, spelled, can, enough)) untold words left answers tells =
       let same : held ≡ words = one_answer (answer (wanted_of b rows turns) bytes) held words is answers in
       let its = subst (λ (l : List ℕ). IsTakenUp layer b rows (told.size d) l k) same up in
       file_runs text told layer b rows turns steps words left k o o1 d d1 end its tells untold

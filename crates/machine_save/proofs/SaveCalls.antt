@@ -1,20 +1,20 @@
 -- The script of a save, by that of its run and by the put of its file.
-use Rattle.std.proofs.Common.{◌≡◌, ◌≢◌, ℕ, ◌*◌, ◌+◌, ◌≤◌, ◌<◌, ◌^◌, true, List, [], ◌++◌, length, append-nil, refl, sym, ap, ◌∙◌, subst, arith, inl, inr, Some, None, Ok, Err}
-use Rattle.std.specs.Prelude.{Option, Result, OnOk, OnErr, IsErrOf, IsSome, slice_index, slice_set}
+use Rattle.std.proofs.Common.{◌≡◌, ◌≢◌, ℕ, ◌*◌, ◌+◌, ◌-◌, ◌≤◌, ◌<◌, ◌^◌, Bool, true, false, List, [], ◌++◌, length, append-nil, append_assoc, refl, sym, ap, ◌∙◌, subst, arith, inl, inr, Some, None, Ok, Err}
+use Rattle.std.specs.Prelude.{Option, Result, OnOk, OnErr, IsErrOf, IsSome, slice_index, slice_set, if◌then◌else◌}
 use Rattle.std.specs.Option.{option_map}
 use Rattle.std.specs.List.{flat_map}
 use Rattle.cvm_words.specs.Bytes.{word}
 use Rattle.cvm_outside.specs.Causes.{ShelfCounts}
 use Rattle.cvm_outside.specs.Told.{IsCutOff, retold, with_sector}
 use Rattle.cvm_outside.specs.Outside.{Outside, Files, Output, Drive, files, drive, no_files, output}
-use Rattle.cvm_outside.specs.Script.{Call, Printed, Read, Wrote, Got, Stored, Who, TheDisk, Performs, done, breaks, goes_on, CallDone, CallFailed, ShelfCalled}
+use Rattle.cvm_outside.specs.Script.{Call, Printed, Read, Wrote, Got, Stored, Who, TheSink, TheDisk, TheShelf, Performs, done, breaks, goes_on, CallDone, CallFailed, ShelfCalled}
 use Rattle.cvm_outside.specs.declared.shelf.Shelf as shelf_of
 use Rattle.cvm_outside.specs.declared.sink.Sink as sink_of
 use Rattle.cvm_outside.specs.declared.sectors.Sectors as sectors_of
 use Rattle.cvm_outside.specs.declared.shelf.ShelfFault.{ShelfFault}
 use Rattle.cvm_outside.specs.declared.shelf.ShelfFault.TheVariants.{Failed, TooLong, Memory as NoMemory}
-use Rattle.cvm_outside.proofs.Follow.{both, first}
-use Rattle.cvm_outside.proofs.Putting.{same_script}
+use Rattle.cvm_outside.proofs.ScriptsFollow.{both, first}
+use Rattle.cvm_outside.proofs.RowsPut.{same_script}
 use Rattle.schedule_file.specs.Rows.{Rows}
 use Rattle.mips_table.specs.Device.{Environment}
 use Rattle.mips_table.specs.Machine.{State, run}
@@ -25,13 +25,14 @@ use Rattle.layer_map.specs.Map.{memory_frames}
 use Rattle.c0_tree.specs.Tree.{CUnit}
 use Rattle.c0_tree.specs.View.{unit_view}
 use Rattle.c0_meaning.specs.TypedState.{IsTypedState}
-use Rattle.cvm_model.specs.Cvm.{System, Cvm, IsCvm, map_of}
+use Rattle.cvm_model.specs.Cvm.{System, Status, Running, Halted, Faulted, Cvm, IsCvm, map_of}
 use Rattle.layer_contract.specs.declared.boot.Boot.{Boot as Booted}
 use Rattle.layer_contract.specs.Boots.{boot_of}
 use Rattle.layer_contract.specs.Follows.{loaded}
 use Rattle.layer_contract.specs.Starts.{user_sectors}
 use Rattle.boot_turns.specs.RunMachines.{RunMachines, MachinesRun}
-use Rattle.boot_turns.specs.Runs.{Run, Past, IsPast}
+use Rattle.boot_turns.specs.Runs.{Run, Past, IsPast, steps_made, has_ended, cvm_at}
+use Rattle.boot_turns.specs.StepScript.{steps_script}
 use Rattle.boot_turns.specs.declared.answers.View.TheVariants.{Boot}
 use Rattle.saved_file.specs.Resumable.{CanBeResumed}
 use Rattle.boot_run.specs.declared.load.LoadFault.{LoadFault}
@@ -42,14 +43,14 @@ use Rattle.boot_run.specs.declared.whole.RunEnd.TheVariants.{Stopped, SinkFault,
 use Rattle.boot_run.specs.LoadEnds.{Kept, pages_needed}
 use Rattle.boot_run.specs.Loading.{system_of}
 use Rattle.boot_run.specs.RunCalls.{run_at, loads, of_end}
-use Rattle.boot_run.specs.RunScript.{saved_words}
-use Rattle.boot_run.specs.SaveCalls.{SaveScript, stop_script, due_stop}
+use Rattle.boot_run.specs.Closing.{says, closing_script}
+use Rattle.boot_run.specs.RunScript.{saved_words, saved_row, saved_bytes, put_script, leaving_script, save_script}
+use Rattle.boot_run.specs.SaveCalls.{SaveScript, unless_on, stop_script, stop_by, due_stop}
 use Rattle.boot_run.specs.SavedFiles.{wanted_of}
 use Rattle.boot_run.specs.SavedRuns.{SavedAt, IsDisk, AreDisk}
 use Rattle.boot_run.specs.Saving.{saved_run, WholeStops}
 use Rattle.boot_run.specs.SaveRoom.{most_words}
-use Rattle.machine_save.specs.SaveCalls.{put_script, leave_script, PutCalls, SomeLeft, SavedScript}
-use Rattle.machine_save.specs.SaveRun.{ShowsSaved}
+use Rattle.machine_save.specs.SaveCalls.{PutCalls, SomeLeft, SavedScript}
 use Rattle.machine_save.specs.SavedBoots.{AreTakenUp, CanBoot}
 
 -- files beside a sink and a disk
@@ -99,6 +100,36 @@ has_room b rows count old now turns steps room r shown up enough disk some bits 
     let told : r.turns ≡ turns = ap (λ (l : List ℕ). slice_index l 5) at.words_are in
     (omega (arith, whole, log, same), omega (arith, told, bits))
 
+-- THE SCRIPT of a save is that of its run, up to where it stops, and behind it the put of its file where it is left to go on
+abbrev pub leave_script : (name : List ℕ) → Run → Past → RunEnd → List Call
+leave_script name r p Stopped = put_script name (saved_bytes r p)
+leave_script name r p other = []
+
+parts : (name : List ℕ) (r : Run) (p : Past) (ended : Bool) (st : Status) →
+    (if ended then unless_on st (closing_script r p) else []) ++ leave_script name r p (stop_by ended st) ≡ (if ended then leaving_script name r p st else [])
+parts name r p false Running = refl
+parts name r p false Halted = refl
+parts name r p false (Faulted f) = refl
+parts name r p true Running = refl
+parts name r p true Halted = append-nil (closing_script r p)
+parts name r p true (Faulted f) = append-nil (closing_script r p)
+
+script_is : (name : List ℕ) (r : Run) (begin : List Call) (p : Past) → begin ++ stop_script r p 0 ++ leave_script name r p (due_stop r p) ≡ save_script name r begin p
+script_is name r begin p =
+    let tail : List Call = if has_ended r then unless_on (cvm_at r p (steps_made r)).status (closing_script r p) else [] in
+    let none : steps_made r - 0 ≡ steps_made r = omega arith in
+    let left : List Call = leave_script name r p (due_stop r p) in
+    append_assoc begin (steps_script r p 0 (steps_made r - 0) ++ tail) left
+    ∙ ap (λ (l : List Call). begin ++ l) (
+    append_assoc (steps_script r p 0 (steps_made r - 0)) tail left
+    ∙ ap (λ (n : ℕ). steps_script r p 0 n ++ (tail ++ left)) none
+    ∙ ap (λ (l : List Call). steps_script r p 0 (steps_made r) ++ l) (parts name r p (has_ended r) (cvm_at r p (steps_made r)).status))
+    ∙ sym (append_assoc begin (steps_script r p 0 (steps_made r)) (if has_ended r then leaving_script name r p (cvm_at r p (steps_made r)).status else []))
+
+as_save : (name : List ℕ) (r : Run) (begin : List Call) (p : Past) (old new : Outside) (blamed : Option Who) → Performs (begin ++ stop_script r p 0 ++ leave_script name r p (due_stop r p)) old new blamed →
+    Performs (save_script name r begin p) old new blamed
+as_save name r begin p old new blamed q = same_script (begin ++ stop_script r p 0 ++ leave_script name r p (due_stop r p)) (save_script name r begin p) old new blamed (script_is name r begin p) q
+
 -- what is behind a script that nobody is blamed for is none, or it broke off
 behind : (a b : List Call) (old new : Outside) (blamed : Option Who) → (blamed ≡ None → b ≡ []) → Performs a old new blamed → Performs (a ++ b) old new blamed
 behind a b old new None none p = same_script a (a ++ b) old new None (sym (ap (λ (l : List Call). a ++ l) (none refl) ∙ append-nil a)) p
@@ -135,10 +166,11 @@ module _ {S O D : Type 0} (shelf : shelf_of.Ghosts S) (text : sink_of.Ghosts O) 
     none = λ h. ap (λ (q : O × D). (s, q.0, q.1)) same;
   }
 
-  pub save_refused : {L : Type 0} (f : LoadFault) → SaveScript {L = L} text told y rows start turns steps script (o, d) (o1, d1) (Err f) → SavedScript shelf text told y rows start turns steps script name (s, o, d) (s, o1, d1) (Err f)
+  pub save_refused : (f : LoadFault) → SaveScript {L = Unit {0}} text told y rows start turns steps script (o, d) (o1, d1) (Err f) → SavedScript shelf text told y rows start turns steps script name (s, o, d) (s, o1, d1) (Err f)
   save_refused load.Disk calls = record {
     exact = λ begun sectors p is past. (
-      first (script ++ stop_script (rn sectors) p 0) (leave_script name (rn sectors) p (due_stop (rn sectors) p)) _ _ TheDisk ((calls.exact refl sectors p is past).0 (files shelf s)),
+      as_save name (rn sectors) script p _ _ (Some TheDisk)
+          (first (script ++ stop_script (rn sectors) p 0) (leave_script name (rn sectors) p (due_stop (rn sectors) p)) _ _ TheDisk ((calls.exact refl sectors p is past).0 (files shelf s))),
       λ e. tt,
     );
     some = λ begun. let w = calls.some refl in (w.0, w.1, [], refl, first (script ++ w.0) [] _ _ TheDisk (w.2 (files shelf s)));
@@ -154,7 +186,8 @@ module _ {S O D : Type 0} (shelf : shelf_of.Ghosts S) (text : sink_of.Ghosts O) 
   save_ended r e over unput calls = record {
     exact = λ begun sectors p is past.
         let w = calls.exact refl sectors p is past in (
-          behind (script ++ stop_script (rn sectors) p 0) (leave_script name (rn sectors) p (due_stop (rn sectors) p)) _ _ (of_end e) (λ none. ap (leave_script name (rn sectors) p) (sym (w.1 none)) ∙ none_left name (rn sectors) p e over) (w.0 (files shelf s)),
+          as_save name (rn sectors) script p _ _ (of_end e)
+              (behind (script ++ stop_script (rn sectors) p 0) (leave_script name (rn sectors) p (due_stop (rn sectors) p)) _ _ (of_end e) (λ none. ap (leave_script name (rn sectors) p) (sym (w.1 none)) ∙ none_left name (rn sectors) p e over) (w.0 (files shelf s))),
           w.1,
         );
     some = λ begun. let w = calls.some refl in (w.0, w.1, [], left_none name e over unput, behind (script ++ w.0) [] _ _ (of_end e) (λ none. refl) (w.2 (files shelf s)));
@@ -162,23 +195,25 @@ module _ {S O D : Type 0} (shelf : shelf_of.Ghosts S) (text : sink_of.Ghosts O) 
   }
 
 -- A RUN STOPPED, and its file was put, or was to be
-left_so : (name bytes : List ℕ) (rows after : Option (List ℕ)) (e : RunEnd) → ShowsSaved rows after e → SomeLeft name (Ok e) (put_script name bytes)
-left_so name bytes rows after Stopped shows = (bytes, refl)
-left_so name bytes rows after NotPut shows = (bytes, refl)
-left_so name bytes rows after SinkFault shows = inr (bytes, refl)
-left_so name bytes rows after ends.Done shows = absurd shows
-left_so name bytes rows after ends.KernelFaulted shows = absurd shows
-left_so name bytes rows after ends.OutOfSteps shows = absurd shows
-left_so name bytes rows after ends.DiskFault shows = absurd shows
+no_call : (old new : Outside) (b : Option Who) → Performs [] old new b → b ≡ Some TheDisk → ⊥
+no_call old new b (done _) e = let z : None ≡ Some TheDisk = e in cc
 
-due_so : (rows after : Option (List ℕ)) (e : RunEnd) → ShowsSaved rows after e → of_end e ≡ None → (due : RunEnd) → Stopped ≡ due → e ≡ due
-due_so rows after Stopped shows none due is = is
-due_so rows after NotPut shows none due is = absurd (let e = none in cc)
-due_so rows after SinkFault shows none due is = absurd (let e = none in cc)
-due_so rows after ends.Done shows none due is = absurd shows
-due_so rows after ends.KernelFaulted shows none due is = absurd shows
-due_so rows after ends.OutOfSteps shows none due is = absurd shows
-due_so rows after ends.DiskFault shows none due is = absurd shows
+row_calls : (old new : Outside) (b : Option Who) → Performs (says saved_row) old new b → b ≡ Some TheDisk → ⊥
+row_calls old new b (breaks c rest _ _ f) e = let z : Some TheSink ≡ Some TheDisk = e in cc
+row_calls old new b (goes_on c rest _ mid _ _ d p) e = no_call mid new b p e
+
+put_calls : (name bytes : List ℕ) (old new : Outside) (b : Option Who) → Performs (put_script name bytes) old new b → b ≡ Some TheDisk → ⊥
+put_calls name bytes old new b (breaks c rest _ _ f) e = let z : Some TheShelf ≡ Some TheDisk = e in cc
+put_calls name bytes old new b (goes_on c rest _ mid _ _ d p) e = row_calls mid new b p e
+
+left_so : (name bytes : List ℕ) (e : RunEnd) → (of_end e ≡ Some TheDisk → ⊥) → (of_end e ≡ None → e ≡ Stopped) → SomeLeft name (Ok e) (put_script name bytes)
+left_so name bytes Stopped none is = (bytes, refl)
+left_so name bytes NotPut none is = (bytes, refl)
+left_so name bytes SinkFault none is = inr (bytes, refl)
+left_so name bytes ends.Done none is = absurd (let z : ends.Done ≡ Stopped = is refl in cc)
+left_so name bytes ends.KernelFaulted none is = absurd (let z : ends.KernelFaulted ≡ Stopped = is refl in cc)
+left_so name bytes ends.OutOfSteps none is = absurd (let z : ends.OutOfSteps ≡ Stopped = is refl in cc)
+left_so name bytes ends.DiskFault none is = absurd (none refl)
 
 module _ {S O D : Type 0} (shelf : shelf_of.Ghosts S) (text : sink_of.Ghosts O) (told : sectors_of.Ghosts D) (y : System) (rows : Rows) (start : List (List ℕ) → State) (turns steps room : ℕ) (script : List Call) (name : List ℕ) (s s2 : S) (o o1 o2 : O) (d d1 : D) where
   abbrev run_from : List (List ℕ) → Run
@@ -186,8 +221,8 @@ module _ {S O D : Type 0} (shelf : shelf_of.Ghosts S) (text : sink_of.Ghosts O) 
 
   pub save_stopped : {L : Type 0} (r : Kept L) (end e : RunEnd) → end ≡ Stopped → SaveScript {L = L} text told y rows start turns steps script (o, d) (o1, d1) (Ok (r, end)) →
       ((sectors : List (List ℕ)) (p : Past) → told.sectors d ≡ Some sectors → IsPast (run_from sectors) p → (length (saved_run r) ≤ room) × (r.turns < 2 ^ 32) × (saved_run r ≡ saved_words (run_from sectors) p)) →
-      ShowsSaved (text.text o1) (text.text o2) e → PutCalls shelf text r room name (s, o1) (s2, o2) e → SavedScript shelf text told y rows start turns steps script name (s, o, d) (s2, o2, d1) (Ok e)
-  save_stopped {L} r end e is_end given words shows put =
+      PutCalls shelf text r room name (s, o1) (s2, o2) e → SavedScript shelf text told y rows start turns steps script name (s, o, d) (s2, o2, d1) (Ok e)
+  save_stopped {L} r end e is_end given words put =
       let calls : SaveScript {L = L} text told y rows start turns steps script (o, d) (o1, d1) (Ok (r, Stopped)) = subst (λ (q : RunEnd). SaveScript {L = L} text told y rows start turns steps script (o, d) (o1, d1) (Ok (r, q))) is_end given in
       record {
         exact = λ begun sectors p is past.
@@ -195,17 +230,18 @@ module _ {S O D : Type 0} (shelf : shelf_of.Ghosts S) (text : sink_of.Ghosts O) 
             let fits = words sectors p is past in
             let bytes : put.0 ≡ flat_map word (saved_words (run_from sectors) p) = put.1 fits.0 fits.1 ∙ ap (flat_map word) fits.2 in
             let left : put_script name put.0 ≡ leave_script name (run_from sectors) p (due_stop (run_from sectors) p) = ap (put_script name) bytes ∙ ap (leave_script name (run_from sectors) p) (w.1 refl) in (
-              same_script ((script ++ stop_script (run_from sectors) p 0) ++ put_script name put.0) (script ++ stop_script (run_from sectors) p 0 ++ leave_script name (run_from sectors) p (due_stop (run_from sectors) p)) _ _ (of_end e)
+              as_save name (run_from sectors) script p _ _ (of_end e) (same_script ((script ++ stop_script (run_from sectors) p 0) ++ put_script name put.0)
+                  (script ++ stop_script (run_from sectors) p 0 ++ leave_script name (run_from sectors) p (due_stop (run_from sectors) p)) _ _ (of_end e)
                   (ap (λ (l : List Call). (script ++ stop_script (run_from sectors) p 0) ++ l) left)
-                  (both (script ++ stop_script (run_from sectors) p 0) (put_script name put.0) _ _ _ (of_end e) (w.0 (files shelf s)) (put.2 (drive told d1))),
-              λ none. due_so (text.text o1) (text.text o2) e shows none (due_stop (run_from sectors) p) (w.1 refl),
+                  (both (script ++ stop_script (run_from sectors) p 0) (put_script name put.0) _ _ _ (of_end e) (w.0 (files shelf s)) (put.2 (drive told d1)))),
+              λ none. put.3 none ∙ w.1 refl,
             );
         some = λ begun.
             let w = calls.some refl in (
               w.0,
               w.1,
               put_script name put.0,
-              left_so name put.0 (text.text o1) (text.text o2) e shows,
+              left_so name put.0 e (put_calls name put.0 _ _ (of_end e) (put.2 (drive told d1))) put.3,
               both (script ++ w.0) (put_script name put.0) _ _ _ (of_end e) (w.2 (files shelf s)) (put.2 (drive told d1)),
             );
         none = λ h. absurd (let q = h in cc);

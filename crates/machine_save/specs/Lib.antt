@@ -1,7 +1,6 @@
 pub mod Room
 pub mod Resume
 pub mod SavedBoots
-pub mod SaveRun
 pub mod ResumeRun
 pub mod SaveCalls
 pub mod ResumeCalls

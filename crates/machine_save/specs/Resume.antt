@@ -20,9 +20,13 @@ NotResumed boot rows turns count bytes (Save e) = (e ≡ Memory) ⊎ (answer (wa
 NotResumed boot rows turns count bytes (SmallDisk need have) =
     (words : List ℕ) × (answer (wanted_of boot rows turns) bytes ≡ Ok words) × (need ≡ pages_needed boot) × (have ≡ count) × (have < need)
 
+-- THE FILE IS TAKEN UP: its bytes spell these words, which are those of a machine that fits, and there are sectors enough
+abbrev pub SpellsRun : Booted → Rows → (turns count : ℕ) → (bytes words : List ℕ) → Type 0
+SpellsRun boot rows turns count bytes words = (answer (wanted_of boot rows turns) bytes ≡ Ok words) × (bytes ≡ flat_map word words)
+    × CanBeResumed (wanted_of boot rows turns) words × (pages_needed boot ≤ count)
+
 -- WHAT IS ANSWERED: the run of the words that the bytes spell, or why there is none
 abbrev pub ResumesFile : {L : Type 0} → (layer : L) → Booted → Rows → (turns count : ℕ) → (bytes : List ℕ) → Result (Kept L) ResumeFault → Type 0
 ResumesFile layer boot rows turns count bytes (Ok r) =
-    (words : List ℕ) × (answer (wanted_of boot rows turns) bytes ≡ Ok words) × (bytes ≡ flat_map word words) × CanBeResumed (wanted_of boot rows turns) words
-    × (pages_needed boot ≤ count) × IsTakenUp layer boot rows count words r
+    (words : List ℕ) × IsTakenUp layer boot rows count words r × SpellsRun boot rows turns count bytes words
 ResumesFile layer boot rows turns count bytes (Err fault) = NotResumed boot rows turns count bytes fault

@@ -18,7 +18,7 @@ use Rattle.boot_run.specs.declared.whole.RunEnd.{RunEnd}
 use Rattle.boot_run.specs.AnyScripts.{EndsUntold}
 use Rattle.boot_run.specs.Loading.{system_of}
 use Rattle.boot_run.specs.LoadEnds.{pages_needed}
-use Rattle.boot_run.specs.RunCalls.{run_at, due_end, of_end, EndsBy, SomeMade}
+use Rattle.boot_run.specs.RunCalls.{run_at, due_end, of_end, RunEndsBy, SomeMade}
 use Rattle.boot_run.specs.RunScript.{WasSaved, rest_script}
 use Rattle.boot_run.specs.SavedFiles.{wanted_of}
 use Rattle.boot_run.specs.SavedRuns.{IsDisk}
@@ -40,7 +40,7 @@ RestPerformed text told b rows turns steps bytes (out, disk) new result =
     WasSaved (boot_over b rows turns steps (told.size disk) sectors) past words left made →
     1 ≤ turns_at (boot_over b rows turns steps (told.size disk) sectors) made →
     turns_at (boot_over b rows turns steps (told.size disk) sectors) made ≤ turns → MatchResult result
-    (λ end. EndsBy text told (out, disk) new (rest_script (boot_over b rows turns steps (told.size disk) sectors) past made)
+    (λ end. RunEndsBy text told (out, disk) new (rest_script (boot_over b rows turns steps (told.size disk) sectors) past made)
     (due_end (boot_over b rows turns steps (told.size disk) sectors) past) end)
     (λ fault. fault ≡ Save Memory)
 

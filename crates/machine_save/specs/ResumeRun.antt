@@ -1,24 +1,17 @@
 -- What a call comes to that takes up a run from the bytes of a file and goes on with it.
-use Rattle.std.specs.Prelude.{◌≡◌, ℕ, ◌≤◌, List, Result, Ok, Err}
-use Rattle.std.specs.List.{flat_map}
-use Rattle.cvm_words.specs.Bytes.{word}
+use Rattle.std.specs.Prelude.{◌≡◌, ℕ, List, Result, Ok, Err}
 use Rattle.mips_table.specs.Machine.{State}
 use Rattle.schedule_file.specs.Rows.{Rows}
 use Rattle.mips_machine.specs.Saved.{saved, CanBeSaved}
 use Rattle.layer_contract.specs.declared.boot.Boot.{Boot as Booted}
-use Rattle.saved_file.specs.Resumable.{CanBeResumed}
-use Rattle.saved_file.specs.Answer.{answer}
 use Rattle.boot_run.specs.declared.whole.RunEnd.{RunEnd}
-use Rattle.boot_run.specs.LoadEnds.{pages_needed}
-use Rattle.boot_run.specs.SavedFiles.{wanted_of}
 use Rattle.machine_save.specs.declared.resuming.ResumeFault.{ResumeFault}
-use Rattle.machine_save.specs.Resume.{NotResumed}
+use Rattle.machine_save.specs.Resume.{NotResumed, SpellsRun}
 
 -- WHAT IS ANSWERED, for what is booted, the rows of a schedule, the turns that are wanted and a disk of so many sectors: the run that the bytes tell was
 -- taken up, and ended; or why none was
 abbrev pub ResumeAnswers : Booted → Rows → (turns count : ℕ) → (bytes : List ℕ) → Result RunEnd ResumeFault → Type 0
-ResumeAnswers boot rows turns count bytes (Ok e) = (words : List ℕ) × (answer (wanted_of boot rows turns) bytes ≡ Ok words) × (bytes ≡ flat_map word words)
-    × CanBeResumed (wanted_of boot rows turns) words × (pages_needed boot ≤ count)
+ResumeAnswers boot rows turns count bytes (Ok e) = (words : List ℕ) × SpellsRun boot rows turns count bytes words
 ResumeAnswers boot rows turns count bytes (Err fault) = NotResumed boot rows turns count bytes fault
 
 -- these words name a machine that was given this input, over these sectors, with its complete turns and its current user

@@ -1,6 +1,6 @@
 // A run that is taken up from a file.
 
-ghost use Rattle.std.specs.Prelude.{◌≡◌, ◌*◌, ◌≤◌, length, IfErr, IfOk, Ok};
+ghost use Rattle.std.specs.Prelude.{◌≡◌, ◌*◌, ◌≤◌, length, IfOk, Ok};
 ghost use Rattle.layer_map.specs.Map.{memory_frames};
 ghost use Rattle.cvm_model.specs.Cvm.{map_of};
 ghost use Rattle.layer_contract.specs.Boots.{BootFollows, boot_of};
@@ -124,7 +124,6 @@ pub fn resume_run<L: Layer + Drop, D: Sectors, O: Sink>(
     requires follows { BootFollows (L.image setup.layer) (L.sizes setup.layer) (L.map setup.layer) setup.boot }
     ensures answers { ResumeAnswers setup.boot setup.schedule limits.turns (D.size disk.old) bytes.now result }
     ensures ends { IfOk result EndsUnsaved }
-    ensures still { IfErr result (λ _. (disk.new ≡ disk.old) × (out.new ≡ out.old)) }
     ensures script { ResumeScript O.Sink D.Sectors setup.boot setup.schedule limits.turns limits.steps bytes.now
         (out.old, disk.old) (out.new, disk.new) result }
 {

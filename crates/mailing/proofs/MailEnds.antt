@@ -8,8 +8,8 @@ use Rattle.cvm_model.specs.Cvm.{Running, Halted}
 use Rattle.cvm_model.specs.Invariant.{Dispatch, IsSafe}
 use Rattle.cvm_model.specs.Systems.{status_after, lines_taken}
 use Rattle.cvm_model.proofs.Systems.{append_none}
-use Rattle.mailing.specs.Users.{Leg, steps_of, before_trap, UserProgress, Runs, Waits, Ended, IsProgressOf, steps_at, traps_at, IsStillStepping}
-use Rattle.mailing.specs.Property.{Message, sends, numbers, ints, held, calls_left, over_of, status_of_users, stand, unsent, sent, StandsSo, IsMailing, IsCarried, IsFinished, turns_for, dispatches_for, MailEnds}
+use Rattle.mailing.specs.Users.{Leg, leg_steps, before_trap, UserProgress, Runs, Waits, Ended, IsProgressOf, steps_at, traps_at, IsStillStepping}
+use Rattle.mailing.specs.Property.{Message, sends, message_numbers, message_ints, held, calls_left, over_of, status_of_users, stand, unsent, sent, StandsSo, IsMailing, IsCarried, IsFinished, turns_for, dispatches_for, MailEnds}
 
 -- WHAT IS ON ITS WAY: a sender that waits has sent one more
 abbrev asked : UserProgress → List Message → List Message
@@ -28,25 +28,25 @@ held_join : (o : Option Message) (xs ys : List Message) → held o (xs ++ ys) �
 held_join None xs ys = refl
 held_join (Some m) xs ys = refl
 
-ints_join : (xs ys : List Message) → ints (xs ++ ys) ≡ ints xs ++ ints ys
+ints_join : (xs ys : List Message) → message_ints (xs ++ ys) ≡ message_ints xs ++ message_ints ys
 ints_join [] ys = refl
 ints_join (x ∷ xs) ys = ap (λ zs. pos x.number ∷ zs) (ints_join xs ys)
 
-numbers_join : (xs ys : List Message) → numbers (xs ++ ys) ≡ numbers xs ++ numbers ys
+numbers_join : (xs ys : List Message) → message_numbers (xs ++ ys) ≡ message_numbers xs ++ message_numbers ys
 numbers_join [] ys = refl
 numbers_join (x ∷ xs) ys = ap (λ zs. x.number ∷ zs) (numbers_join xs ys)
 
-ints_are : (xs : List Message) → ints xs ≡ map (λ (n : ℕ). pos n) (numbers xs)
+ints_are : (xs : List Message) → message_ints xs ≡ map (λ (n : ℕ). pos n) (message_numbers xs)
 ints_are [] = refl
 ints_are (x ∷ xs) = ap (λ zs. pos x.number ∷ zs) (ints_are xs)
 
-few_asked : (p : UserProgress) (rest : List Message) → length (numbers (asked p rest)) ≤ 1
+few_asked : (p : UserProgress) (rest : List Message) → length (message_numbers (asked p rest)) ≤ 1
 few_asked Waits [] = omega arith
 few_asked Waits (m ∷ ms) = omega arith
 few_asked (Runs t) ms = omega arith
 few_asked Ended ms = omega arith
 
-few_held : (o : Option Message) (xs : List Message) (n : ℕ) → length (numbers xs) ≤ n → length (numbers (held o xs)) ≤ suc n
+few_held : (o : Option Message) (xs : List Message) (n : ℕ) → length (message_numbers xs) ≤ n → length (message_numbers (held o xs)) ≤ suc n
 few_held None xs n h = omega (arith, h)
 few_held (Some m) xs n h = omega (arith, h)
 
@@ -56,7 +56,7 @@ module _ (ms : List Message) (one two : ℕ) (f g : Flat) (k : ℕ) (past : List
   So printed hand box rest a b p q = StandsSo ms one two f g k past at (stand printed hand box rest a b p q)
 
   record IsOver (printed : List Message) (hand box : Option Message) (rest : List Message) (p : UserProgress) : Type 0 where
-    none_left : numbers (held hand (held box (asked p rest))) ≡ []
+    none_left : message_numbers (held hand (held box (asked p rest))) ≡ []
     finished : IsFinished ms one two f g at
 
   not_halted : (A : Type 0) → Running ≡ Halted → A
@@ -67,7 +67,7 @@ module _ (ms : List Message) (one two : ℕ) (f g : Flat) (k : ℕ) (past : List
   over printed None None [] a b Ended Ended so e = record {
     none_left = refl;
     finished = record {
-      log_is = so.log_is ∙ ap numbers (sym (append_none printed) ∙ sym so.all);
+      log_is = so.log_is ∙ ap message_numbers (sym (append_none printed) ∙ sym so.all);
       data_is = so.data_is;
       users_are = so.users_are ∙ ap₂ (λ (a b : Flat). a ∷ b ∷ []) so.sender.ends so.receiver.ends;
     };
@@ -99,29 +99,29 @@ module _ (ms : List Message) (one two : ℕ) (f g : Flat) (k : ℕ) (past : List
         ∙ ap (λ (l : List Message). h.printed ++ l) (held_join h.hand (held h.box (asked h.sender_progress h.rest)) (unsent h.sender_progress h.rest))
         ∙ sym (append_assoc h.printed way (unsent h.sender_progress h.rest))
 
-    is_sent : sent past ≡ ints (h.printed ++ way)
-    is_sent = append_cancel_right (sent past) (ints (h.printed ++ way)) (ints (unsent h.sender_progress h.rest))
-        (h.so.sent_are ∙ ap ints parts ∙ ints_join (h.printed ++ way) (unsent h.sender_progress h.rest))
+    is_sent : sent past ≡ message_ints (h.printed ++ way)
+    is_sent = append_cancel_right (sent past) (message_ints (h.printed ++ way)) (message_ints (unsent h.sender_progress h.rest))
+        (h.so.sent_are ∙ ap message_ints parts ∙ ints_join (h.printed ++ way) (unsent h.sender_progress h.rest))
 
     is_carried : IsCarried past at
     is_carried = record {
-      on_way = numbers way;
+      on_way = message_numbers way;
       few = few_held h.hand (held h.box (asked h.sender_progress h.rest)) 2 (few_held h.box (asked h.sender_progress h.rest) 1 (few_asked h.sender_progress h.rest));
-      sent_are = is_sent ∙ ints_are (h.printed ++ way) ∙ ap (map (λ (n : ℕ). pos n)) (numbers_join h.printed way ∙ ap (λ (l : List ℕ). l ++ numbers way) (sym h.so.log_is));
+      sent_are = is_sent ∙ ints_are (h.printed ++ way) ∙ ap (map (λ (n : ℕ). pos n)) (numbers_join h.printed way ∙ ap (λ (l : List ℕ). l ++ message_numbers way) (sym h.so.log_is));
       at_the_end = λ e. (is_over e).none_left;
     }
 
 -- HOW LONG
-less : (left : List Leg) (last t : ℕ) → t ≤ before_trap left last → t < steps_of left last
+less : (left : List Leg) (last t : ℕ) → t ≤ before_trap left last → t < leg_steps left last
 less [] last t h = omega (arith, h)
 less (leg ∷ legs) last t h = omega (arith, h)
 
-at_most : (left : List Leg) (last : ℕ) (p : UserProgress) → IsProgressOf left last p → steps_at left last p ≤ steps_of left last
+at_most : (left : List Leg) (last : ℕ) (p : UserProgress) → IsProgressOf left last p → steps_at left last p ≤ leg_steps left last
 at_most left last (Runs t) h = let l = less left last t h in omega (arith, l)
 at_most left last Waits h = let l = less left last (before_trap left last) (omega arith) in omega (arith, l)
 at_most left last Ended h = let l = less left last (before_trap left last) (omega arith) in omega (arith, l)
 
-running_less : (left : List Leg) (last : ℕ) (p : UserProgress) → IsProgressOf left last p → IsStillStepping p → steps_at left last p < steps_of left last
+running_less : (left : List Leg) (last : ℕ) (p : UserProgress) → IsProgressOf left last p → IsStillStepping p → steps_at left last p < leg_steps left last
 running_less left last (Runs t) h on = less left last t h
 running_less left last Waits h on = absurd on
 running_less left last Ended h on = absurd on

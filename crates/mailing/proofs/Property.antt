@@ -27,7 +27,7 @@ use Rattle.kernel_theorems.proofs.Histories.{one_more}
 use Rattle.kernel_theorems.proofs.UserRuns.{goes_before, goes_next, its_step, put_in}
 use Rattle.mailing.specs.Tree.{kernel_tree}
 use Rattle.mailing.specs.Users.{Leg, before_trap, UserProgress, Runs, Waits, Ended, machine_at, IsStillStepping, FollowsLegs}
-use Rattle.mailing.specs.Property.{Message, sends, receives, asks, prints, numbers, ints, AreSmall, Mails, data_of, held, number_in, IsFull, IsEmpty, calls_left, waits_by, over_of, status_of_users, MailState, stand, unsent, sent_by, sent, StandsSo, IsMailing, Mailing, MailIsKept, MailIsPrinted}
+use Rattle.mailing.specs.Property.{Message, sends, receives, asking_leg, printing_leg, message_numbers, message_ints, AreSmall, Mails, data_of, held, message_number, IsFull, IsEmpty, calls_left, waits_by, over_of, status_of_users, MailState, stand, unsent, sent_by, sent, StandsSo, IsMailing, Mailing, MailIsKept, MailIsPrinted}
 use Rattle.mailing.proofs.Dispatching.{core_of, Gives, Code}
 use Rattle.mailing.proofs.Dispatching as code
 use Rattle.mailing.proofs.UserFollows.{goes_on, is_answered, is_waiting, is_answered_late, is_over, TrapsSo, its_trap, IsThat, is_that}
@@ -47,11 +47,11 @@ small_held : (o : Option Message) (xs : List Message) → AreSmall (held o xs) �
 small_held None xs h = h
 small_held (Some m) xs h = h.2
 
-numbers_push : (xs : List Message) (m : Message) → numbers (xs ++ m ∷ []) ≡ numbers xs ++ m.number ∷ []
+numbers_push : (xs : List Message) (m : Message) → message_numbers (xs ++ m ∷ []) ≡ message_numbers xs ++ m.number ∷ []
 numbers_push [] m = refl
 numbers_push (x ∷ xs) m = ap (λ ns. x.number ∷ ns) (numbers_push xs m)
 
-numbers_length : (xs : List Message) → length (numbers xs) ≡ length xs
+numbers_length : (xs : List Message) → length (message_numbers xs) ≡ length xs
 numbers_length [] = refl
 numbers_length (x ∷ xs) = ap suc (numbers_length xs)
 
@@ -120,13 +120,13 @@ module _ (y : System) (ms : List Message) (one two : ℕ) (r : Mails y ms one tw
 
   -- the state of a standing
   abbrev at_place : MailState → Console → ℕ → Core
-  at_place s o u = core_of (number_in s.box) (waits_by 1 s.sender + waits_by 2 s.receiver) (over_of s.sender s.receiver)
+  at_place s o u = core_of (message_number s.box) (waits_by 1 s.sender + waits_by 2 s.receiver) (over_of s.sender s.receiver)
       (machine_at s.f (sends s.rest) one s.sender) (machine_at s.g (calls_left s.hand (held s.box s.rest)) two s.receiver) o u
 
   -- BEHIND A DISPATCH
   made : (k : ℕ) (past : List Dispatch) (e : Dispatch) (s : MailState) (o : Console) (u : ℕ)
       → (a : FollowsLegs F (sends ms) one s.f (sends s.rest) s.sender) (b : FollowsLegs G (receives ms) two s.g (calls_left s.hand (held s.box s.rest)) s.receiver)
-      → ms ≡ s.printed ++ held s.hand (held s.box s.rest) → sent past ++ (sent_by e ++ ints (unsent s.sender s.rest)) ≡ ints ms → o.log ≡ numbers s.printed
+      → ms ≡ s.printed ++ held s.hand (held s.box s.rest) → sent past ++ (sent_by e ++ message_ints (unsent s.sender s.rest)) ≡ message_ints ms → o.log ≡ message_numbers s.printed
       → (s.sender ≡ Waits → IsFull s.box) → (s.receiver ≡ Waits → IsEmpty s.hand × IsEmpty s.box)
       → (status_of_users s.sender s.receiver ≡ Running → ((u ≡ 1) × IsStillStepping s.sender) ⊎ ((u ≡ 2) × IsStillStepping s.receiver)) → status_of e.next ≡ status_of_users s.sender s.receiver
       → suc k ≡ 1 + a.steps + b.steps + (lines_taken past + (if e.cause == 1 then 1 else 0)) → suc (length past) ≡ 1 + a.traps + b.traps + (lines_taken past + (if e.cause == 1 then 1 else 0))
@@ -148,7 +148,7 @@ module _ (y : System) (ms : List Message) (one two : ℕ) (r : Mails y ms one tw
           sender = a;
           receiver = b;
           all = all;
-          sent_are = sent_join past e (ints (unsent s.sender s.rest)) ∙ sends_on;
+          sent_are = sent_join past e (message_ints (unsent s.sender s.rest)) ∙ sends_on;
           log_is = log;
           for_room = room;
           for_mail = mail;
@@ -206,7 +206,7 @@ module _ (y : System) (ms : List Message) (one two : ℕ) (r : Mails y ms one tw
       → Running ≡ status_of_users s.sender s.receiver
       → (b : FollowsLegs F (sends ms) one s.f (sends s.rest) s.sender) (c : FollowsLegs G (receives ms) two s.g (calls_left s.hand (held s.box s.rest)) s.receiver)
       → ms ≡ s.printed ++ held s.hand (held s.box s.rest)
-      → sent past ++ (sent_by (made_of k cause edata (core_of box waits over f g o u) (at_place s after u) (User a)) ++ ints (unsent s.sender s.rest)) ≡ ints ms → after.log ≡ numbers s.printed
+      → sent past ++ (sent_by (made_of k cause edata (core_of box waits over f g o u) (at_place s after u) (User a)) ++ message_ints (unsent s.sender s.rest)) ≡ message_ints ms → after.log ≡ message_numbers s.printed
       → (s.sender ≡ Waits → IsFull s.box) → (s.receiver ≡ Waits → IsEmpty s.hand × IsEmpty s.box)
       → suc k ≡ 1 + b.steps + c.steps + (lines_taken past + (if cause == 1 then 1 else 0)) → suc (length past) ≡ 1 + b.traps + c.traps + (lines_taken past + (if cause == 1 then 1 else 0))
       → KeepsAll y 200 J k cause edata past at
@@ -220,7 +220,7 @@ module _ (y : System) (ms : List Message) (one two : ℕ) (r : Mails y ms one tw
       → Halted ≡ status_of_users s.sender s.receiver
       → (b : FollowsLegs F (sends ms) one s.f (sends s.rest) s.sender) (c : FollowsLegs G (receives ms) two s.g (calls_left s.hand (held s.box s.rest)) s.receiver)
       → ms ≡ s.printed ++ held s.hand (held s.box s.rest)
-      → sent past ++ (sent_by (made_of k cause edata (core_of box waits over f g o u) (at_place s o u) Halt) ++ ints (unsent s.sender s.rest)) ≡ ints ms → o.log ≡ numbers s.printed
+      → sent past ++ (sent_by (made_of k cause edata (core_of box waits over f g o u) (at_place s o u) Halt) ++ message_ints (unsent s.sender s.rest)) ≡ message_ints ms → o.log ≡ message_numbers s.printed
       → (s.sender ≡ Waits → IsFull s.box) → (s.receiver ≡ Waits → IsEmpty s.hand × IsEmpty s.box)
       → suc k ≡ 1 + b.steps + c.steps + (lines_taken past + (if cause == 1 then 1 else 0)) → suc (length past) ≡ 1 + b.traps + c.traps + (lines_taken past + (if cause == 1 then 1 else 0))
       → KeepsAll y 200 J k cause edata past at
@@ -237,22 +237,22 @@ module _ (y : System) (ms : List Message) (one two : ℕ) (r : Mails y ms one tw
     lined_first box rest f g mask c t (Runs s) so here =
         let turns = so.turns_are in
         let long = so.length_is in
-        moves k 1 mask past c touch (number_in box) 0 0 (after t f) (after s g) c.console 1 2 (stand printed hand box rest f g (Runs t) (Runs s)) c.console
-        (whole c (after t f ∷ after s g ∷ []) (data_of (number_in box) 0 0) 1 so.users_are here so.data_is) (code.first_lets p has_room (after t f) (after s g) c.console (number_in box) mask)
+        moves k 1 mask past c touch (message_number box) 0 0 (after t f) (after s g) c.console 1 2 (stand printed hand box rest f g (Runs t) (Runs s)) c.console
+        (whole c (after t f ∷ after s g ∷ []) (data_of (message_number box) 0 0) 1 so.users_are here so.data_is) (code.first_lets p has_room (after t f) (after s g) c.console (message_number box) mask)
         (omega arith) (omega arith) (inr (refl, tt)) refl so.sender so.receiver so.all so.sent_are so.log_is so.for_room so.for_mail (omega (arith, turns)) (omega (arith, long))
     lined_first box rest f g mask c t Waits so here =
         let turns = so.turns_are in
         let long = so.length_is in
         let h = machine_at g (calls_left hand (held box rest)) two Waits in
-        moves k 1 mask past c touch (number_in box) 2 0 (after t f) h c.console 1 1 (stand printed hand box rest f g (Runs t) Waits) c.console
-        (whole c (after t f ∷ h ∷ []) (data_of (number_in box) 2 0) 1 so.users_are here so.data_is) (code.first_stays_waiting p has_room (after t f) h c.console (number_in box) mask)
+        moves k 1 mask past c touch (message_number box) 2 0 (after t f) h c.console 1 1 (stand printed hand box rest f g (Runs t) Waits) c.console
+        (whole c (after t f ∷ h ∷ []) (data_of (message_number box) 2 0) 1 so.users_are here so.data_is) (code.first_stays_waiting p has_room (after t f) h c.console (message_number box) mask)
         (omega arith) (omega arith) (inl (refl, tt)) refl so.sender so.receiver so.all so.sent_are so.log_is so.for_room so.for_mail (omega (arith, turns)) (omega (arith, long))
     lined_first box rest f g mask c t Ended so here =
         let turns = so.turns_are in
         let long = so.length_is in
         let h = machine_at g (calls_left hand (held box rest)) two Ended in
-        moves k 1 mask past c touch (number_in box) 0 2 (after t f) h c.console 1 1 (stand printed hand box rest f g (Runs t) Ended) c.console
-        (whole c (after t f ∷ h ∷ []) (data_of (number_in box) 0 2) 1 so.users_are here so.data_is) (code.first_stays_over p has_room (after t f) h c.console (number_in box) mask)
+        moves k 1 mask past c touch (message_number box) 0 2 (after t f) h c.console 1 1 (stand printed hand box rest f g (Runs t) Ended) c.console
+        (whole c (after t f ∷ h ∷ []) (data_of (message_number box) 0 2) 1 so.users_are here so.data_is) (code.first_stays_over p has_room (after t f) h c.console (message_number box) mask)
         (omega arith) (omega arith) (inl (refl, tt)) refl so.sender so.receiver so.all so.sent_are so.log_is so.for_room so.for_mail (omega (arith, turns)) (omega (arith, long))
 
     lined_second : (box : Option Message) (rest : List Message) (f g : Flat) (mask : ℕ) (c : Core) (q : UserProgress) (s : ℕ) → So k past c (stand printed hand box rest f g q (Runs s)) → c.current ≡ 2
@@ -260,22 +260,22 @@ module _ (y : System) (ms : List Message) (one two : ℕ) (r : Mails y ms one tw
     lined_second box rest f g mask c (Runs t) s so here =
         let turns = so.turns_are in
         let long = so.length_is in
-        moves k 1 mask past c touch (number_in box) 0 0 (after t f) (after s g) c.console 2 1 (stand printed hand box rest f g (Runs t) (Runs s)) c.console
-        (whole c (after t f ∷ after s g ∷ []) (data_of (number_in box) 0 0) 2 so.users_are here so.data_is) (code.second_lets p has_room (after t f) (after s g) c.console (number_in box) mask)
+        moves k 1 mask past c touch (message_number box) 0 0 (after t f) (after s g) c.console 2 1 (stand printed hand box rest f g (Runs t) (Runs s)) c.console
+        (whole c (after t f ∷ after s g ∷ []) (data_of (message_number box) 0 0) 2 so.users_are here so.data_is) (code.second_lets p has_room (after t f) (after s g) c.console (message_number box) mask)
         (omega arith) (omega arith) (inl (refl, tt)) refl so.sender so.receiver so.all so.sent_are so.log_is so.for_room so.for_mail (omega (arith, turns)) (omega (arith, long))
     lined_second box rest f g mask c Waits s so here =
         let turns = so.turns_are in
         let long = so.length_is in
         let h = machine_at f (sends rest) one Waits in
-        moves k 1 mask past c touch (number_in box) 1 0 h (after s g) c.console 2 2 (stand printed hand box rest f g Waits (Runs s)) c.console
-        (whole c (h ∷ after s g ∷ []) (data_of (number_in box) 1 0) 2 so.users_are here so.data_is) (code.second_stays_waiting p has_room h (after s g) c.console (number_in box) mask)
+        moves k 1 mask past c touch (message_number box) 1 0 h (after s g) c.console 2 2 (stand printed hand box rest f g Waits (Runs s)) c.console
+        (whole c (h ∷ after s g ∷ []) (data_of (message_number box) 1 0) 2 so.users_are here so.data_is) (code.second_stays_waiting p has_room h (after s g) c.console (message_number box) mask)
         (omega arith) (omega arith) (inr (refl, tt)) refl so.sender so.receiver so.all so.sent_are so.log_is so.for_room so.for_mail (omega (arith, turns)) (omega (arith, long))
     lined_second box rest f g mask c Ended s so here =
         let turns = so.turns_are in
         let long = so.length_is in
         let h = machine_at f (sends rest) one Ended in
-        moves k 1 mask past c touch (number_in box) 0 1 h (after s g) c.console 2 2 (stand printed hand box rest f g Ended (Runs s)) c.console
-        (whole c (h ∷ after s g ∷ []) (data_of (number_in box) 0 1) 2 so.users_are here so.data_is) (code.second_stays_over p has_room h (after s g) c.console (number_in box) mask)
+        moves k 1 mask past c touch (message_number box) 0 1 h (after s g) c.console 2 2 (stand printed hand box rest f g Ended (Runs s)) c.console
+        (whole c (h ∷ after s g ∷ []) (data_of (message_number box) 0 1) 2 so.users_are here so.data_is) (code.second_stays_over p has_room h (after s g) c.console (message_number box) mask)
         (omega arith) (omega arith) (inr (refl, tt)) refl so.sender so.receiver so.all so.sent_are so.log_is so.for_room so.for_mail (omega (arith, turns)) (omega (arith, long))
 
     -- what is small, of those that aren't printed
@@ -290,14 +290,14 @@ module _ (y : System) (ms : List Message) (one two : ℕ) (r : Mails y ms one tw
       -- which trap it is, and the state in which dispatch is called
       first_traps : (box : Option Message) (rest : List Message) (f g : Flat) (t : ℕ) (q : UserProgress) → So k past c (stand printed hand box rest f g (Runs t) q) → c.current ≡ 1
           → IsThat f (sends rest) one t came.after cause edata
-          × (at ≡ core_of (number_in box) (waits_by 1 (Runs t) + waits_by 2 q) (over_of (Runs t) q) (after (suc (before_trap (sends rest) one)) f) (machine_at g (calls_left hand (held box rest)) two q) c.console 1)
+          × (at ≡ core_of (message_number box) (waits_by 1 (Runs t) + waits_by 2 q) (over_of (Runs t) q) (after (suc (before_trap (sends rest) one)) f) (machine_at g (calls_left hand (held box rest)) two q) c.console 1)
       first_traps box rest f g t q so here =
           let us = after t f ∷ machine_at g (calls_left hand (held box rest)) two q ∷ [] in
           let is : IsThat f (sends rest) one t came.after cause edata = is_that f (sends rest) one so.sender.calls t so.sender.is_at came.after cause edata
           (its_step c (after t f ∷ machine_at g (calls_left hand (held box rest)) two q ∷ []) 1 (Trap came.after cause edata) so.users_are here came.stepped) in (
             is,
             came.left ∙ core_is c came.after (after (suc (before_trap (sends rest) one)) f) (after t f ∷ machine_at g (calls_left hand (held box rest)) two q ∷ [])
-                (data_of (number_in box) (waits_by 1 (Runs t) + waits_by 2 q) (over_of (Runs t) q)) 1 so.users_are here so.data_is is.left,
+                (data_of (message_number box) (waits_by 1 (Runs t) + waits_by 2 q) (over_of (Runs t) q)) 1 so.users_are here so.data_is is.left,
           )
 
       puts : (m : Message) (rest : List Message) (f g : Flat) (t s : ℕ) → So k past c (stand printed hand None (m ∷ rest) f g (Runs t) (Runs s)) → c.current ≡ 1 → KeepsAll y 200 J k (cause_number cause) edata past at
@@ -313,7 +313,7 @@ module _ (y : System) (ms : List Message) (one two : ℕ) (r : Mails y ms one tw
           (stand printed hand (Some m) rest (told (after (suc m.sending) f) 0) g (Runs 0) (Runs s)) c.console n.1
           (code.put p has_room (after (suc m.sending) f) (after s g) c.console m.number small.0 says) (omega arith) (omega arith) (inl (refl, tt)) refl
           (is_answered F (sends ms) one f (record { steps = m.sending; argument = m.number; answer = 0 }) (sends rest) t n.0.now so.sender) so.receiver so.all
-          (ap (λ (z : ℤ). sent past ++ (z ∷ ints rest)) says ∙ so.sent_are) so.log_is (busy (IsFull (Some m)) 0) (busy (IsEmpty hand × IsEmpty (Some m)) s) (omega (arith, turns)) (omega (arith, long)))
+          (ap (λ (z : ℤ). sent past ++ (z ∷ message_ints rest)) says ∙ so.sent_are) so.log_is (busy (IsFull (Some m)) 0) (busy (IsEmpty hand × IsEmpty (Some m)) s) (omega (arith, turns)) (omega (arith, long)))
 
       waits_for_room : (b m : Message) (rest : List Message) (f g : Flat) (t s : ℕ) → So k past c (stand printed hand (Some b) (m ∷ rest) f g (Runs t) (Runs s)) → c.current ≡ 1 → KeepsAll y 200 J k (cause_number cause) edata past at
       waits_for_room b m rest f g t s so here =
@@ -327,7 +327,7 @@ module _ (y : System) (ms : List Message) (one two : ℕ) (r : Mails y ms one tw
           (stand printed hand (Some b) (m ∷ rest) f g Waits (Runs s)) c.console n.1
           (code.too_early p has_room (after (suc m.sending) f) (after s g) c.console b.number small.0) (omega arith) (omega arith) (inr (refl, tt)) refl
           (is_waiting F (sends ms) one f (record { steps = m.sending; argument = m.number; answer = 0 }) (sends rest) t n.0.now so.sender) so.receiver so.all
-          (ap (λ (z : ℤ). sent past ++ (z ∷ ints rest)) says ∙ so.sent_are) so.log_is (λ e. tt) (busy (IsEmpty hand × IsEmpty (Some b)) s) (omega (arith, turns)) (omega (arith, long)))
+          (ap (λ (z : ℤ). sent past ++ (z ∷ message_ints rest)) says ∙ so.sent_are) so.log_is (λ e. tt) (busy (IsEmpty hand × IsEmpty (Some b)) s) (omega (arith, turns)) (omega (arith, long)))
 
       first_ends : (box : Option Message) (f g : Flat) (t s : ℕ) → So k past c (stand printed hand box [] f g (Runs t) (Runs s)) → c.current ≡ 1 → KeepsAll y 200 J k (cause_number cause) edata past at
       first_ends box f g t s so here =
@@ -335,9 +335,9 @@ module _ (y : System) (ms : List Message) (one two : ℕ) (r : Mails y ms one tw
           let turns = so.turns_are in
           let long = so.length_is in
           arrive k cause edata 76 past at n.0.cause_is n.0.edata_is
-          (moves k 6 76 past at touch (number_in box) 0 0 (after (suc one) f) (after s g) c.console 1 2
+          (moves k 6 76 past at touch (message_number box) 0 0 (after (suc one) f) (after s g) c.console 1 2
           (stand printed hand box [] f g Ended (Runs s)) c.console n.1
-          (code.first_ends p has_room (after (suc one) f) (after s g) c.console (number_in box)) (omega arith) (omega arith) (inr (refl, tt)) refl
+          (code.first_ends p has_room (after (suc one) f) (after s g) c.console (message_number box)) (omega arith) (omega arith) (inr (refl, tt)) refl
           (is_over F (sends ms) one f t n.0.now so.sender) so.receiver so.all so.sent_are so.log_is (gone (IsFull box)) so.for_mail (omega (arith, turns)) (omega (arith, long)))
 
       first_ends_all : (box : Option Message) (f g : Flat) (t : ℕ) → So k past c (stand printed hand box [] f g (Runs t) Ended) → c.current ≡ 1 → KeepsAll y 200 J k (cause_number cause) edata past at
@@ -347,20 +347,20 @@ module _ (y : System) (ms : List Message) (one two : ℕ) (r : Mails y ms one tw
           let long = so.length_is in
           let h = machine_at g (calls_left hand (held box [])) two Ended in
           arrive k cause edata 76 past at n.0.cause_is n.0.edata_is
-          (halts k 6 76 past at touch (number_in box) 0 2 (after (suc one) f) h c.console 1 (stand printed hand box [] f g Ended Ended) n.1
-          (code.first_ends_all p has_room (after (suc one) f) h c.console (number_in box)) refl
+          (halts k 6 76 past at touch (message_number box) 0 2 (after (suc one) f) h c.console 1 (stand printed hand box [] f g Ended Ended) n.1
+          (code.first_ends_all p has_room (after (suc one) f) h c.console (message_number box)) refl
           (is_over F (sends ms) one f t n.0.now so.sender) so.receiver so.all so.sent_are so.log_is (gone (IsFull box)) (gone (IsEmpty hand × IsEmpty box)) (omega (arith, turns)) (omega (arith, long)))
 
       -- A TRAP OF USER 2
       second_traps : (box : Option Message) (rest : List Message) (f g : Flat) (q : UserProgress) (s : ℕ) → So k past c (stand printed hand box rest f g q (Runs s)) → c.current ≡ 2
           → IsThat g (calls_left hand (held box rest)) two s came.after cause edata
-          × (at ≡ core_of (number_in box) (waits_by 1 q + waits_by 2 (Runs s)) (over_of q (Runs s)) (machine_at f (sends rest) one q) (after (suc (before_trap (calls_left hand (held box rest)) two)) g) c.console 2)
+          × (at ≡ core_of (message_number box) (waits_by 1 q + waits_by 2 (Runs s)) (over_of q (Runs s)) (machine_at f (sends rest) one q) (after (suc (before_trap (calls_left hand (held box rest)) two)) g) c.console 2)
       second_traps box rest f g q s so here =
           let is : IsThat g (calls_left hand (held box rest)) two s came.after cause edata = is_that g (calls_left hand (held box rest)) two so.receiver.calls s so.receiver.is_at came.after cause edata
           (its_step c (machine_at f (sends rest) one q ∷ after s g ∷ []) 2 (Trap came.after cause edata) so.users_are here came.stepped) in (
             is,
             came.left ∙ core_is c came.after (after (suc (before_trap (calls_left hand (held box rest)) two)) g) (machine_at f (sends rest) one q ∷ after s g ∷ [])
-                (data_of (number_in box) (waits_by 1 q + waits_by 2 (Runs s)) (over_of q (Runs s))) 2 so.users_are here so.data_is is.left,
+                (data_of (message_number box) (waits_by 1 q + waits_by 2 (Runs s)) (over_of q (Runs s))) 2 so.users_are here so.data_is is.left,
           )
 
   -- those of a receiver with nothing in its hand
@@ -378,8 +378,8 @@ module _ (y : System) (ms : List Message) (one two : ℕ) (r : Mails y ms one tw
         (stand printed (Some m) None rest (told (after (suc m.sending) f) 0) (told (after (suc m.asking) g) m.number) (Runs 0) (Runs 0)) c.console n.1
         (code.deliver p has_room (after (suc m.sending) f) (after (suc m.asking) g) c.console m.number small.0 says) (omega arith) (omega arith) (inl (refl, tt)) refl
         (is_answered F (sends ms) one f (record { steps = m.sending; argument = m.number; answer = 0 }) (sends rest) t n.0.now so.sender)
-        (is_answered_late G (receives ms) two g (asks m) (prints m ∷ receives rest) so.receiver) so.all
-        (ap (λ (z : ℤ). sent past ++ (z ∷ ints rest)) says ∙ so.sent_are) so.log_is (busy (IsFull None) 0) (busy (IsEmpty (Some m) × IsEmpty None) 0) (omega (arith, turns)) (omega (arith, long)))
+        (is_answered_late G (receives ms) two g (asking_leg m) (printing_leg m ∷ receives rest) so.receiver) so.all
+        (ap (λ (z : ℤ). sent past ++ (z ∷ message_ints rest)) says ∙ so.sent_are) so.log_is (busy (IsFull None) 0) (busy (IsEmpty (Some m) × IsEmpty None) 0) (omega (arith, turns)) (omega (arith, long)))
 
     takes : (b : Message) (rest : List Message) (f g : Flat) (t s : ℕ) → So k past c (stand printed None (Some b) rest f g (Runs t) (Runs s)) → c.current ≡ 2 → KeepsAll y 200 J k (cause_number cause) edata past at
     takes b rest f g t s so here =
@@ -392,7 +392,7 @@ module _ (y : System) (ms : List Message) (one two : ℕ) (r : Mails y ms one tw
         (moves k 6 12 past at touch b.number 0 0 (after t f) (after (suc b.asking) g) c.console 2 2
         (stand printed (Some b) None rest f (told (after (suc b.asking) g) b.number) (Runs t) (Runs 0)) c.console n.1
         (code.take p has_room (after t f) (after (suc b.asking) g) c.console b.number small.0 says) (omega arith) (omega arith) (inr (refl, tt)) refl
-        so.sender (is_answered G (receives ms) two g (asks b) (prints b ∷ receives rest) s n.0.now so.receiver) so.all so.sent_are so.log_is
+        so.sender (is_answered G (receives ms) two g (asking_leg b) (printing_leg b ∷ receives rest) s n.0.now so.receiver) so.all so.sent_are so.log_is
         (busy (IsFull None) t) (busy (IsEmpty (Some b) × IsEmpty None) 0) (omega (arith, turns)) (omega (arith, long)))
 
     takes_last : (b : Message) (rest : List Message) (f g : Flat) (s : ℕ) → So k past c (stand printed None (Some b) rest f g Ended (Runs s)) → c.current ≡ 2 → KeepsAll y 200 J k (cause_number cause) edata past at
@@ -407,7 +407,7 @@ module _ (y : System) (ms : List Message) (one two : ℕ) (r : Mails y ms one tw
         (moves k 6 12 past at touch b.number 0 1 h (after (suc b.asking) g) c.console 2 2
         (stand printed (Some b) None rest f (told (after (suc b.asking) g) b.number) Ended (Runs 0)) c.console n.1
         (code.take_last p has_room h (after (suc b.asking) g) c.console b.number small.0 says) (omega arith) (omega arith) (inr (refl, tt)) refl
-        so.sender (is_answered G (receives ms) two g (asks b) (prints b ∷ receives rest) s n.0.now so.receiver) so.all so.sent_are so.log_is
+        so.sender (is_answered G (receives ms) two g (asking_leg b) (printing_leg b ∷ receives rest) s n.0.now so.receiver) so.all so.sent_are so.log_is
         (gone (IsFull None)) (busy (IsEmpty (Some b) × IsEmpty None) 0) (omega (arith, turns)) (omega (arith, long)))
 
     takes_and_puts : (b m : Message) (rest : List Message) (f g : Flat) (s : ℕ) → So k past c (stand printed None (Some b) (m ∷ rest) f g Waits (Runs s)) → c.current ≡ 2 → KeepsAll y 200 J k (cause_number cause) edata past at
@@ -423,7 +423,7 @@ module _ (y : System) (ms : List Message) (one two : ℕ) (r : Mails y ms one tw
         (stand printed (Some b) (Some m) rest (told (after (suc m.sending) f) 0) (told (after (suc b.asking) g) b.number) (Runs 0) (Runs 0)) c.console n.1
         (code.take_and_put p has_room (after (suc m.sending) f) (after (suc b.asking) g) c.console b.number m.number small.0 says brings small.2.0) (omega arith) (omega arith) (inr (refl, tt)) refl
         (is_answered_late F (sends ms) one f (record { steps = m.sending; argument = m.number; answer = 0 }) (sends rest) so.sender)
-        (is_answered G (receives ms) two g (asks b) (prints b ∷ receives (m ∷ rest)) s n.0.now so.receiver) so.all so.sent_are so.log_is
+        (is_answered G (receives ms) two g (asking_leg b) (printing_leg b ∷ receives (m ∷ rest)) s n.0.now so.receiver) so.all so.sent_are so.log_is
         (busy (IsFull (Some m)) 0) (busy (IsEmpty (Some b) × IsEmpty (Some m)) 0) (omega (arith, turns)) (omega (arith, long)))
 
     waits_for_mail : (m : Message) (rest : List Message) (f g : Flat) (t s : ℕ) → So k past c (stand printed None None (m ∷ rest) f g (Runs t) (Runs s)) → c.current ≡ 2 → KeepsAll y 200 J k (cause_number cause) edata past at
@@ -436,7 +436,7 @@ module _ (y : System) (ms : List Message) (one two : ℕ) (r : Mails y ms one tw
         (moves k 6 12 past at touch 0 0 0 (after t f) (after (suc m.asking) g) c.console 2 1
         (stand printed None None (m ∷ rest) f g (Runs t) Waits) c.console n.1
         (code.nothing_there p has_room (after t f) (after (suc m.asking) g) c.console says) (omega arith) (omega arith) (inl (refl, tt)) refl
-        so.sender (is_waiting G (receives ms) two g (asks m) (prints m ∷ receives rest) s n.0.now so.receiver) so.all so.sent_are so.log_is
+        so.sender (is_waiting G (receives ms) two g (asking_leg m) (printing_leg m ∷ receives rest) s n.0.now so.receiver) so.all so.sent_are so.log_is
         (busy (IsFull None) t) (λ e. (tt, tt)) (omega (arith, turns)) (omega (arith, long)))
 
     second_ends : (f g : Flat) (t s : ℕ) → So k past c (stand printed None None [] f g (Runs t) (Runs s)) → c.current ≡ 2 → KeepsAll y 200 J k (cause_number cause) edata past at
@@ -463,7 +463,7 @@ module _ (y : System) (ms : List Message) (one two : ℕ) (r : Mails y ms one tw
 
   -- those of a receiver with a message in its hand: it is printed
   module _ (k : ℕ) (past : List Dispatch) (touch : UsePages y 200 0 past) (printed : List Message) (m : Message) (c at : Core) (cause : Cause) (edata : ℕ) (came : IsTrapOf c cause edata at) where
-    has_log_room : (xs : List Message) (log : List ℕ) → ms ≡ printed ++ m ∷ xs → log ≡ numbers printed → log_has_room log ≡ true
+    has_log_room : (xs : List Message) (log : List ℕ) → ms ≡ printed ++ m ∷ xs → log ≡ message_numbers printed → log_has_room log ≡ true
     has_log_room xs log all is =
         let few = r.few in
         let less = fewer printed m xs in
@@ -471,8 +471,8 @@ module _ (y : System) (ms : List Message) (one two : ℕ) (r : Mails y ms one tw
         let same : length log ≡ length printed = ap length is ∙ numbers_length printed in
         lt-ltb (length log) LOG_ROOM (omega (arith, few, less, long, same))
 
-    logged : (log : List ℕ) → log ≡ numbers printed → m.number < 2 ^ 31 → log ++ cast_unsigned w32 (pos m.number) ∷ [] ≡ numbers (printed ++ m ∷ [])
-    logged log is small = ap (λ (ns : List ℕ). ns ++ cast_unsigned w32 (pos m.number) ∷ []) is ∙ ap (λ (n : ℕ). numbers printed ++ n ∷ []) (word_is m.number small) ∙ sym (numbers_push printed m)
+    logged : (log : List ℕ) → log ≡ message_numbers printed → m.number < 2 ^ 31 → log ++ cast_unsigned w32 (pos m.number) ∷ [] ≡ message_numbers (printed ++ m ∷ [])
+    logged log is small = ap (λ (ns : List ℕ). ns ++ cast_unsigned w32 (pos m.number) ∷ []) is ∙ ap (λ (n : ℕ). message_numbers printed ++ n ∷ []) (word_is m.number small) ∙ sym (numbers_push printed m)
 
     prints_it : (box : Option Message) (rest : List Message) (f g : Flat) (t s : ℕ) → So k past c (stand printed (Some m) box rest f g (Runs t) (Runs s)) → c.current ≡ 2 → KeepsAll y 200 J k (cause_number cause) edata past at
     prints_it box rest f g t s so here =
@@ -482,10 +482,10 @@ module _ (y : System) (ms : List Message) (one two : ℕ) (r : Mails y ms one tw
         let says = so.receiver.calls.0.argument_is in
         let small = small_left k past touch printed (Some m) box rest so.all in
         arrive k cause edata 12 past at n.0.cause_is n.0.edata_is
-        (moves k 6 12 past at touch (number_in box) 0 0 (after t f) (after (suc m.printing) g) c.console 2 2
+        (moves k 6 12 past at touch (message_number box) 0 0 (after t f) (after (suc m.printing) g) c.console 2 2
         (stand (printed ++ m ∷ []) None box rest f (told (after (suc m.printing) g) 0) (Runs t) (Runs 0)) (code.with_word p has_room (after t f) (after (suc m.printing) g) c.console m.number) n.1
-        (code.print p has_room (after t f) (after (suc m.printing) g) c.console (number_in box) m.number small.0 says (has_log_room (held box rest) c.console.log so.all so.log_is)) (omega arith) (omega arith) (inr (refl, tt)) refl
-        so.sender (is_answered G (receives ms) two g (prints m) (receives (held box rest)) s n.0.now so.receiver) (so.all ∙ sym (append_assoc printed (m ∷ []) (held box rest))) so.sent_are
+        (code.print p has_room (after t f) (after (suc m.printing) g) c.console (message_number box) m.number small.0 says (has_log_room (held box rest) c.console.log so.all so.log_is)) (omega arith) (omega arith) (inr (refl, tt)) refl
+        so.sender (is_answered G (receives ms) two g (printing_leg m) (receives (held box rest)) s n.0.now so.receiver) (so.all ∙ sym (append_assoc printed (m ∷ []) (held box rest))) so.sent_are
         (logged c.console.log so.log_is small.1) (busy (IsFull box) t) (busy (IsEmpty None × IsEmpty box) 0) (omega (arith, turns)) (omega (arith, long)))
 
     prints_late : (box : Option Message) (rest : List Message) (f g : Flat) (s : ℕ) → So k past c (stand printed (Some m) box rest f g Ended (Runs s)) → c.current ≡ 2 → KeepsAll y 200 J k (cause_number cause) edata past at
@@ -497,10 +497,10 @@ module _ (y : System) (ms : List Message) (one two : ℕ) (r : Mails y ms one tw
         let small = small_left k past touch printed (Some m) box rest so.all in
         let h = machine_at f (sends rest) one Ended in
         arrive k cause edata 12 past at n.0.cause_is n.0.edata_is
-        (moves k 6 12 past at touch (number_in box) 0 1 h (after (suc m.printing) g) c.console 2 2
+        (moves k 6 12 past at touch (message_number box) 0 1 h (after (suc m.printing) g) c.console 2 2
         (stand (printed ++ m ∷ []) None box rest f (told (after (suc m.printing) g) 0) Ended (Runs 0)) (code.with_word p has_room h (after (suc m.printing) g) c.console m.number) n.1
-        (code.print_late p has_room h (after (suc m.printing) g) c.console (number_in box) m.number small.0 says (has_log_room (held box rest) c.console.log so.all so.log_is)) (omega arith) (omega arith) (inr (refl, tt)) refl
-        so.sender (is_answered G (receives ms) two g (prints m) (receives (held box rest)) s n.0.now so.receiver) (so.all ∙ sym (append_assoc printed (m ∷ []) (held box rest))) so.sent_are
+        (code.print_late p has_room h (after (suc m.printing) g) c.console (message_number box) m.number small.0 says (has_log_room (held box rest) c.console.log so.all so.log_is)) (omega arith) (omega arith) (inr (refl, tt)) refl
+        so.sender (is_answered G (receives ms) two g (printing_leg m) (receives (held box rest)) s n.0.now so.receiver) (so.all ∙ sym (append_assoc printed (m ∷ []) (held box rest))) so.sent_are
         (logged c.console.log so.log_is small.1) (gone (IsFull box)) (busy (IsEmpty None × IsEmpty box) 0) (omega (arith, turns)) (omega (arith, long)))
 
     prints_while_full : (b : Message) (rest : List Message) (f g : Flat) (s : ℕ) → So k past c (stand printed (Some m) (Some b) rest f g Waits (Runs s)) → c.current ≡ 2 → KeepsAll y 200 J k (cause_number cause) edata past at
@@ -515,7 +515,7 @@ module _ (y : System) (ms : List Message) (one two : ℕ) (r : Mails y ms one tw
         (moves k 6 12 past at touch b.number 1 0 h (after (suc m.printing) g) c.console 2 2
         (stand (printed ++ m ∷ []) None (Some b) rest f (told (after (suc m.printing) g) 0) Waits (Runs 0)) (code.with_word p has_room h (after (suc m.printing) g) c.console m.number) n.1
         (code.print_while_full p has_room h (after (suc m.printing) g) c.console b.number m.number small.2.0 says small.0 (has_log_room (b ∷ rest) c.console.log so.all so.log_is)) (omega arith) (omega arith) (inr (refl, tt)) refl
-        so.sender (is_answered G (receives ms) two g (prints m) (receives (b ∷ rest)) s n.0.now so.receiver) (so.all ∙ sym (append_assoc printed (m ∷ []) (b ∷ rest))) so.sent_are
+        so.sender (is_answered G (receives ms) two g (printing_leg m) (receives (b ∷ rest)) s n.0.now so.receiver) (so.all ∙ sym (append_assoc printed (m ∷ []) (b ∷ rest))) so.sent_are
         (logged c.console.log so.log_is small.1) (λ e. tt) (busy (IsEmpty None × IsEmpty (Some b)) 0) (omega (arith, turns)) (omega (arith, long)))
 
   -- WHICH IT IS, of all

@@ -1,11 +1,11 @@
 -- The text is that of the tree: each field computes.
 use Rattle.std.proofs.Common.{refl, arith}
 use Rattle.c0_tokens.specs.Lexis.{mark_cut, word_lexeme}
-use Rattle.c0_tokens.specs.Spelling.{words, marks}
+use Rattle.c0_tokens.specs.Spelling.{reserved_words, marks}
 use Rattle.kernel_theorems.specs.Text.{IsTextOf}
 use Rattle.mailing.specs.Text.{text}
 use Rattle.mailing.specs.Tree.{kernel_tree}
 
 pub is_text : IsTextOf 80000 text kernel_tree
-unfolding mark_cut word_lexeme words marks
+unfolding mark_cut word_lexeme reserved_words marks
 is_text = record { short = omega arith; reads = refl; faultless = refl; is = refl }

@@ -5,7 +5,7 @@ use Rattle.mips_table.specs.declared.cause.Cause.TheVariants.{Syscall}
 use Rattle.mips_table.specs.Flat.{Flat, Trap, vstep}
 use Rattle.kernel_theorems.specs.UserRuns.{after, TrapsAfter}
 use Rattle.kernel_theorems.proofs.UserRuns.{traps_last, is_cause, leaves_last}
-use Rattle.mailing.specs.Users.{Leg, behind, CallsInTurn, before_trap, Runs, Waits, Ended, FollowsLegs}
+use Rattle.mailing.specs.Users.{Leg, behind_leg, CallsInTurn, before_trap, Runs, Waits, Ended, FollowsLegs}
 
 module _ (first : Flat) (all : List Leg) (last : ℕ) (f : Flat) where
   abbrev pub goes_on : (left : List Leg) (t : ℕ) → t < before_trap left last → FollowsLegs first all last f left (Runs t) → FollowsLegs first all last f left (Runs (suc t))
@@ -19,7 +19,7 @@ module _ (first : Flat) (all : List Leg) (last : ℕ) (f : Flat) where
     traps_are = h.traps_are;
   }
 
-  abbrev pub is_answered : (leg : Leg) (legs : List Leg) (t : ℕ) → t ≡ leg.steps → FollowsLegs first all last f (leg ∷ legs) (Runs t) → FollowsLegs first all last (behind f leg) legs (Runs 0)
+  abbrev pub is_answered : (leg : Leg) (legs : List Leg) (t : ℕ) → t ≡ leg.steps → FollowsLegs first all last f (leg ∷ legs) (Runs t) → FollowsLegs first all last (behind_leg f leg) legs (Runs 0)
   is_answered leg legs t same h = record {
     calls = h.calls.1;
     ends = h.ends;
@@ -41,7 +41,7 @@ module _ (first : Flat) (all : List Leg) (last : ℕ) (f : Flat) where
     traps_are = let e = h.traps_are in omega (arith, e);
   }
 
-  abbrev pub is_answered_late : (leg : Leg) (legs : List Leg) → FollowsLegs first all last f (leg ∷ legs) Waits → FollowsLegs first all last (behind f leg) legs (Runs 0)
+  abbrev pub is_answered_late : (leg : Leg) (legs : List Leg) → FollowsLegs first all last f (leg ∷ legs) Waits → FollowsLegs first all last (behind_leg f leg) legs (Runs 0)
   is_answered_late leg legs h = record {
     calls = h.calls.1;
     ends = h.ends;

@@ -15,7 +15,7 @@ use Rattle.cvm_model.specs.Cvm.{System, Cvm, Status, Running, Halted, first_flat
 use Rattle.cvm_model.specs.Invariant.{Dispatch, dispatches_of, HasEight, HasUsers, IsSafe}
 use Rattle.cvm_model.specs.Systems.{SystemProperty, status_after, lines_taken, UsePages, IsSystemInvariant, SystemHolds}
 use Rattle.mailing.specs.Tree.{kernel_tree}
-use Rattle.mailing.specs.Users.{Leg, CallsInTurn, ended, steps_of, UserProgress, Runs, Waits, Ended, machine_at, IsStillStepping, FollowsLegs}
+use Rattle.mailing.specs.Users.{Leg, CallsInTurn, ended, leg_steps, UserProgress, Runs, Waits, Ended, machine_at, IsStillStepping, FollowsLegs}
 
 -- a message: its number, and the untrapped steps of the sender before the call that sends it, of the receiver before the call that asks for it, and from its
 -- answer to the call that prints it
@@ -31,18 +31,18 @@ sends [] = []
 sends (m ∷ ms) = record { steps = m.sending; argument = m.number; answer = 0 } ∷ sends ms
 
 -- the calls of the receiver: it asks, is answered with the message, and has it printed
-abbrev pub asks : Message → Leg
-asks m = record { steps = m.asking; argument = 0; answer = m.number }
+abbrev pub asking_leg : Message → Leg
+asking_leg m = record { steps = m.asking; argument = 0; answer = m.number }
 
-abbrev pub prints : Message → Leg
-prints m = record { steps = m.printing; argument = m.number; answer = 0 }
+abbrev pub printing_leg : Message → Leg
+printing_leg m = record { steps = m.printing; argument = m.number; answer = 0 }
 
 abbrev pub receives : List Message → List Leg
 receives [] = []
-receives (m ∷ ms) = asks m ∷ prints m ∷ receives ms
+receives (m ∷ ms) = asking_leg m ∷ printing_leg m ∷ receives ms
 
-abbrev pub numbers : List Message → List ℕ
-numbers ms = map (λ (m : Message). m.number) ms
+abbrev pub message_numbers : List Message → List ℕ
+message_numbers ms = map (λ (m : Message). m.number) ms
 
 -- numbers that can be sent: from 1 on, and ints
 abbrev pub AreSmall : List Message → Type 0
@@ -76,9 +76,9 @@ abbrev pub held : Option Message → List Message → List Message
 held None ms = ms
 held (Some m) ms = m ∷ ms
 
-abbrev pub number_in : Option Message → ℕ
-number_in None = 0
-number_in (Some m) = m.number
+abbrev pub message_number : Option Message → ℕ
+message_number None = 0
+message_number (Some m) = m.number
 
 abbrev pub IsFull : Option Message → Type 0
 IsFull None = ⊥
@@ -91,7 +91,7 @@ IsEmpty (Some m) = ⊥
 -- the calls that the receiver has still to make: of the message that it was answered with, and of those that it was not yet
 abbrev pub calls_left : Option Message → List Message → List Leg
 calls_left None ms = receives ms
-calls_left (Some m) ms = prints m ∷ receives ms
+calls_left (Some m) ms = printing_leg m ∷ receives ms
 
 -- a user's number where it waits, and where it has ended
 abbrev pub waits_by : ℕ → UserProgress → ℕ
@@ -143,8 +143,8 @@ abbrev pub sent : List Dispatch → List ℤ
 sent [] = []
 sent (d ∷ past) = sent_by d ++ sent past
 
-abbrev pub ints : List Message → List ℤ
-ints ms = map (λ (m : Message). pos m.number) ms
+abbrev pub message_ints : List Message → List ℤ
+message_ints ms = map (λ (m : Message). pos m.number) ms
 
 -- WHAT IS SO after k turns, whatever lines came. The messages are those that were printed, then that in the receiver's hand, that in the mailbox, and those that
 -- are left; they are those that were sent, and then those that were not yet. Each user follows its calls; who waits, waits for the mailbox; and each turn was
@@ -153,12 +153,12 @@ pub record StandsSo (ms : List Message) (one two : ℕ) (f g : Flat) (k : ℕ) (
   pub sender : FollowsLegs f (sends ms) one s.f (sends s.rest) s.sender
   pub receiver : FollowsLegs g (receives ms) two s.g (calls_left s.hand (held s.box s.rest)) s.receiver
   pub all : ms ≡ s.printed ++ held s.hand (held s.box s.rest)
-  pub sent_are : sent past ++ ints (unsent s.sender s.rest) ≡ ints ms
-  pub log_is : at.console.log ≡ numbers s.printed
+  pub sent_are : sent past ++ message_ints (unsent s.sender s.rest) ≡ message_ints ms
+  pub log_is : at.console.log ≡ message_numbers s.printed
   pub for_room : s.sender ≡ Waits → IsFull s.box
   pub for_mail : s.receiver ≡ Waits → IsEmpty s.hand × IsEmpty s.box
   pub users_are : at.users ≡ machine_at s.f (sends s.rest) one s.sender ∷ machine_at s.g (calls_left s.hand (held s.box s.rest)) two s.receiver ∷ []
-  pub data_is : at.c0 ≡ data_of (number_in s.box) (waits_by 1 s.sender + waits_by 2 s.receiver) (over_of s.sender s.receiver)
+  pub data_is : at.c0 ≡ data_of (message_number s.box) (waits_by 1 s.sender + waits_by 2 s.receiver) (over_of s.sender s.receiver)
   pub turn_is : status_after past ≡ Running → ((at.current ≡ 1) × IsStillStepping s.sender) ⊎ ((at.current ≡ 2) × IsStillStepping s.receiver)
   pub status_is : status_after past ≡ status_of_users s.sender s.receiver
   pub turns_are : k ≡ 1 + sender.steps + receiver.steps + lines_taken past
@@ -199,13 +199,13 @@ pub record IsCarried (past : List Dispatch) (at : Core) : Type 0 where
 
 -- a system that has halted: all messages were printed, each machine is behind its user's end, and the kernel's data say so
 pub record IsFinished (ms : List Message) (one two : ℕ) (f g : Flat) (at : Core) : Type 0 where
-  pub log_is : at.console.log ≡ numbers ms
+  pub log_is : at.console.log ≡ message_numbers ms
   pub data_is : at.c0 ≡ data_of 0 0 3
   pub users_are : at.users ≡ ended f (sends ms) one ∷ ended g (receives ms) two ∷ []
 
 -- the turns without lines: the first one, and each step of both users; and the dispatches among them: the first one, and each trap
 abbrev pub turns_for : List Message → (one two : ℕ) → ℕ
-turns_for ms one two = 1 + steps_of (sends ms) one + steps_of (receives ms) two
+turns_for ms one two = 1 + leg_steps (sends ms) one + leg_steps (receives ms) two
 
 abbrev pub dispatches_for : List Message → ℕ
 dispatches_for ms = 3 + length (sends ms) + length (receives ms)

@@ -23,23 +23,23 @@ pub record Leg : Type 0 where
   pub answer : ℕ
 
 -- the machine behind it
-abbrev pub behind : Flat → Leg → Flat
-behind f leg = told (after (suc leg.steps) f) leg.answer
+abbrev pub behind_leg : Flat → Leg → Flat
+behind_leg f leg = told (after (suc leg.steps) f) leg.answer
 
 -- A USER makes these calls in this order, where it is answered so, and ends after so many steps behind the last one
 abbrev pub CallsInTurn : Flat → List Leg → (last : ℕ) → Type 0
 CallsInTurn f [] last = EndsAfter f last
-CallsInTurn f (leg ∷ legs) last = AsksAfter f leg.steps leg.argument × CallsInTurn (behind f leg) legs last
+CallsInTurn f (leg ∷ legs) last = AsksAfter f leg.steps leg.argument × CallsInTurn (behind_leg f leg) legs last
 
 -- its machine behind its end
 abbrev pub ended : Flat → List Leg → (last : ℕ) → Flat
 ended f [] last = after (suc last) f
-ended f (leg ∷ legs) last = ended (behind f leg) legs last
+ended f (leg ∷ legs) last = ended (behind_leg f leg) legs last
 
 -- its steps, those that trap counted
-abbrev pub steps_of : List Leg → (last : ℕ) → ℕ
-steps_of [] last = suc last
-steps_of (leg ∷ legs) last = suc leg.steps + steps_of legs last
+abbrev pub leg_steps : List Leg → (last : ℕ) → ℕ
+leg_steps [] last = suc last
+leg_steps (leg ∷ legs) last = suc leg.steps + leg_steps legs last
 
 -- the untrapped steps before its next trap
 abbrev pub before_trap : List Leg → (last : ℕ) → ℕ
@@ -86,6 +86,6 @@ pub record FollowsLegs (first : Flat) (all : List Leg) (last : ℕ) (f : Flat) (
   pub ends : ended f left last ≡ ended first all last
   pub is_at : IsProgressOf left last p
   pub steps : ℕ
-  pub steps_are : steps + steps_of left last ≡ steps_of all last + steps_at left last p
+  pub steps_are : steps + leg_steps left last ≡ leg_steps all last + steps_at left last p
   pub traps : ℕ
   pub traps_are : traps + length left ≡ length all + traps_at p

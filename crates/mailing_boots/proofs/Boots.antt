@@ -16,7 +16,7 @@ use Rattle.run_bounds.specs.Steps.{BoundsAreSmall}
 use Rattle.kernel_linker.specs.Sources.{AcceptedAreOfImages}
 use Rattle.run_scripts.specs.declared.exit_status.Status.{Status}
 use Rattle.run_scripts.specs.declared.exit_status.Status.TheVariants.{Done}
-use Rattle.run_scripts.specs.Boot.{booted, around, first_state, steps_before}
+use Rattle.run_scripts.specs.Boot.{booted, environment_of, start_state, steps_before}
 use Rattle.kernel_theorems.specs.Text.{Means}
 use Rattle.kernel_boots.specs.Boots.{turns_made}
 use Rattle.kernel_boots.specs.Systems.{SystemEndsWithin, HasHalted, SystemShown}
@@ -25,7 +25,7 @@ use Rattle.kernel_boots.proofs.Systems.{asks_source, asked_users, stopped, syste
 use Rattle.mailing.specs.Tree.{kernel_tree}
 use Rattle.mailing.specs.Text.{text as kernel_text}
 use Rattle.mailing.specs.Users.{CallsInTurn, ended}
-use Rattle.mailing.specs.Property.{Message, sends, receives, numbers, AreSmall, Mails, data_of, Mailing, IsCarried, IsFinished, turns_for, dispatches_for, MailIsKept, MailEnds}
+use Rattle.mailing.specs.Property.{Message, sends, receives, message_numbers, AreSmall, Mails, data_of, Mailing, IsCarried, IsFinished, turns_for, dispatches_for, MailIsKept, MailEnds}
 use Rattle.mailing_boots.specs.Boots.{report_of, MailShown, AnyUsersMail}
 
 abbrev mails : (sender receiver : List ℕ) (ms : List Message) (one two : ℕ) → CallsInTurn (first_flat sender) (sends ms) one → CallsInTurn (first_flat receiver) (receives ms) two → AreSmall ms → length ms ≤ LOG_ROOM
@@ -56,7 +56,7 @@ module _ (law : MailEnds) (x : Environment) (y : System) (ms : List Message) (on
 
   abbrev Halts : Type 0
   Halts = (status ≡ Done) × (h.stands.state.status ≡ Halted) × (length h.stands.state.rows ≤ dispatches_for ms + raised)
-      × (text ≡ rows_text h.stands.state.rows ++ report_of (numbers ms) (ended f (sends ms) one ∷ ended g (receives ms) two ∷ []))
+      × (text ≡ rows_text h.stands.state.rows ++ report_of (message_numbers ms) (ended f (sends ms) one ∷ ended g (receives ms) two ∷ []))
 
   by_end : HasHalted x y s turns steps status text h.stands → Halts
   by_end halted =
@@ -69,7 +69,7 @@ module _ (law : MailEnds) (x : Environment) (y : System) (ms : List Message) (on
         halted.halted,
         omega (arith, long, few, rows),
         halted.text_is ∙ ap (λ (t : List ℕ). rows_text h.stands.state.rows ++ t)
-            (reported y.boot.meaning.names h.stands.state.core (numbers ms) (ended f (sends ms) one ∷ ended g (receives ms) two ∷ []) names done.data_is done.log_is done.users_are),
+            (reported y.boot.meaning.names h.stands.state.core (message_numbers ms) (ended f (sends ms) one ∷ ended g (receives ms) two ∷ []) names done.data_is done.log_is done.users_are),
       )
 
   carried : (k : ℕ) → turns_made x s turns steps ≡ suc k → IsCarried (dispatches_of y (lines_of_turn x s) 200 (suc k)) h.stands.state.core
@@ -99,5 +99,5 @@ any_users_mail images laws counts small takes rise means kept law sender receive
     let r : Mails y ms one two = mails sender receiver ms one two first second tiny few y (means s.unit s.params read.unit) users (let room = read.room.stack in omega (arith, room)) in (
       text,
       printed,
-      shown law (around rows old) y ms one two r (first_flat sender) (first_flat receiver) (first_state session s rows before) (steps_before session.start y) (length rows.lines) session.turns session.steps status text shows,
+      shown law (environment_of rows old) y ms one two r (first_flat sender) (first_flat receiver) (start_state session s rows before) (steps_before session.start y) (length rows.lines) session.turns session.steps status text shows,
     )

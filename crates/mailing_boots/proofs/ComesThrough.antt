@@ -11,7 +11,7 @@ use Rattle.c0_meaning.specs.UserProgram.{Seen, prog, done}
 use Rattle.cvm_model.specs.Cvm.{first_flat}
 use Rattle.cvm_model.proofs.Systems.{append_none}
 use Rattle.user_c0.specs.Image.{image_words}
-use Rattle.user_c0.specs.Events.{Event, call, replies, calls, others, untrapped, answer_of, answers}
+use Rattle.user_c0.specs.Events.{Event, call, replies, call_count, others, untrapped, answer_of, answers}
 use Rattle.user_c0.specs.Program.{EndsBy, steps_of as most_steps}
 use Rattle.user_c0.specs.Users.{UserHasCome, UsersGoOn, IntsAreTold}
 use Rattle.kernel_theorems.specs.UserRuns.{after, told}
@@ -44,13 +44,13 @@ module _ (calls_come : CallsCome) (ends_come : EndsCome) (tell : IntsAreTold) (a
     seen : prog u (answers es) n ≡ record { arguments = ints arguments; ending = done }
     seen = ap (λ xs. prog u xs n) known ∙ b.runs
 
-    count : length (prog u (answers es) n).arguments ≡ calls es
+    count : length (prog u (answers es) n).arguments ≡ call_count es
     count =
         let a : length (prog u (answers es) n).arguments ≡ length (ints arguments) = ap (λ (p : Seen). length p.arguments) seen in
         let c : length (ints arguments) ≡ length arguments = map_length (λ (n : ℕ). pos n) arguments in
         let d : length (answers es) ≡ length (ints given) = ap length known in
         let e : length (ints given) ≡ length given = map_length (λ (n : ℕ). pos n) given in
-        let g : length (answers es) ≡ calls es = map_length answer_of (replies es) in
+        let g : length (answers es) ≡ call_count es = map_length answer_of (replies es) in
         let h = b.as_many in
         omega (arith, a, c, d, e, g, h)
 
@@ -70,11 +70,11 @@ module _ (calls_come : CallsCome) (ends_come : EndsCome) (tell : IntsAreTold) (a
   -- A CALL, with what was asked and answered before it
   module _ (asked replied : List ℕ) (a x : ℕ) (more later : List ℕ) (es : List Event) (f : Flat) (arguments_are : arguments ≡ asked ++ a ∷ more) (given_are : given ≡ replied ++ x ∷ later)
       (same : length asked ≡ length replied) (come : UserHasCome u es f) (none : others es ≡ []) (known : answers es ≡ ints replied) (few : untrapped es ≤ most_steps n) (small : x < 2 ^ 31) where
-    count_here : calls es ≡ length asked
+    count_here : call_count es ≡ length asked
     count_here =
         let d : length (answers es) ≡ length (ints replied) = ap length known in
         let e : length (ints replied) ≡ length replied = map_length (λ (n : ℕ). pos n) replied in
-        let g : length (answers es) ≡ calls es = map_length answer_of (replies es) in
+        let g : length (answers es) ≡ call_count es = map_length answer_of (replies es) in
         omega (arith, d, e, g, same)
 
     whole : ints replied ++ ints (x ∷ later) ≡ ints given
@@ -88,7 +88,7 @@ module _ (calls_come : CallsCome) (ends_come : EndsCome) (tell : IntsAreTold) (a
         ∙ ap (λ (p : Seen). take (suc (length (ints replied))) p.arguments) b.runs
         ∙ ap₂ (λ (i : ℕ) (xs : List ℕ). take (suc i) (ints xs)) e arguments_are
 
-    has : slice_get (prog u (answers es) n).arguments (calls es) ≡ Some (pos a)
+    has : slice_get (prog u (answers es) n).arguments (call_count es) ≡ Some (pos a)
     has = ap₂ (λ (xs : List ℤ) (i : ℕ). slice_get xs i) first_ones count_here ∙ there asked a more
 
     its_call : CallsNext u es f n (pos a)

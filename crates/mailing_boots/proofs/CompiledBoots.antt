@@ -14,11 +14,11 @@ use Rattle.kernel_linker.specs.Accept.{ImageSystem}
 use Rattle.kernel_linker.specs.Sources.{AcceptedAreOfImages}
 use Rattle.user_c0.specs.Image.{image_words}
 use Rattle.run_scripts.specs.declared.exit_status.Status.{Status}
-use Rattle.run_scripts.specs.Boot.{booted, around, first_state, steps_before}
+use Rattle.run_scripts.specs.Boot.{booted, environment_of, start_state, steps_before}
 use Rattle.cvm_shell.specs.Programs.{HasProgram, LinkedPrograms}
 use Rattle.kernel_theorems.specs.Text.{MeansProgram}
-use Rattle.program_systems.specs.Counts.{ImagesIgnorePlaces}
-use Rattle.program_systems.proofs.Places.{image_is}
+use Rattle.program_systems.specs.Counts.{ImagesIgnoreSpans}
+use Rattle.program_systems.proofs.BareImages.{image_is}
 use Rattle.kernel_boots.proofs.Linked.{AreThere, are_there, asks_system}
 use Rattle.mailing.specs.Text.{text as kernel_text}
 use Rattle.mailing.specs.Users.{ended}
@@ -58,7 +58,7 @@ unfolding digits
 lines_are users = refl
 
 module _ (x : Environment) (y : System) (s : State) (late raised turns steps : ℕ) (status : Status) (text : List ℕ) (one two : CUnit) (one_is : IsUnitAs User sender_text one) (two_is : IsUnitAs User receiver_text two)
-    (h : ProgramMailShown x y s late raised turns steps one two 142 172 one_to_ten status text) where
+    (h : ProgramMailShown x y s late raised turns steps one two 140 170 one_to_ten status text) where
   shown : NamedMailShown x y s late raised turns steps status text
   shown = record {
     one = one;
@@ -79,22 +79,22 @@ module _ (x : Environment) (y : System) (s : State) (late raised turns steps : �
 counted_as : (a b : List ℕ) (answers : List ℕ) (n : ℕ) → a ≡ b → IsCountedThrough (first_flat b) answers n → IsCountedThrough (first_flat a) answers n
 counted_as a b answers n e is = subst (λ w. IsCountedThrough (first_flat w) answers n) (sym e) is
 
-pub compiled_mail_boots : AcceptedAreOfImages → LinkedPrograms → MeansProgram sender_text sender → MeansProgram receiver_text receiver → MailersCall → ImagesIgnorePlaces → MailersAreCounted → AnyCountedProgramsMail → CompiledMailBoots
+pub compiled_mail_boots : AcceptedAreOfImages → LinkedPrograms → MeansProgram sender_text sender → MeansProgram receiver_text receiver → MailersCall → ImagesIgnoreSpans → MailersAreCounted → AnyCountedProgramsMail → CompiledMailBoots
 compiled_mail_boots images linked means_one means_two calls ignore counts law words status old new headlines session s rows before h some view asks layer l =
     let t : AreThere s sender_text receiver_text = are_there images linked layer sender_text receiver_text s l in
-    let (text, printed, shows) = law t.one t.two 400 600 one_to_ten 142 172
+    let (text, printed, shows) = law t.one t.two 400 600 one_to_ten 140 170
     (record {
       sender = calls_so sender_text sender means_one s 1 t.one t.one_is t.first 400 one_to_ten (zeros one_to_ten) calls.sends refl (zeros_are_ints one_to_ten);
       receiver = calls_so receiver_text receiver means_two s 2 t.two t.two_is t.second 600 (asked_for one_to_ten) (told_for one_to_ten) calls.receives refl (told_are_ints one_to_ten can_be_sent);
       small = can_be_sent;
       few = omega arith;
     })
-    (counted_as (image_words t.one) (image_words sender) (zeros one_to_ten) 142 (image_is ignore sender_text sender means_one t.one t.one_is) counts.sending)
-    (counted_as (image_words t.two) (image_words receiver) (told_for one_to_ten) 172 (image_is ignore receiver_text receiver means_two t.two t.two_is) counts.receiving)
+    (counted_as (image_words t.one) (image_words sender) (zeros one_to_ten) 140 (image_is ignore sender_text sender means_one t.one t.one_is) counts.sending)
+    (counted_as (image_words t.two) (image_words receiver) (told_for one_to_ten) 170 (image_is ignore receiver_text receiver means_two t.two t.two_is) counts.receiving)
     words status old new headlines session s rows before h some view
     (asks_system images kernel_text (image_words t.one ∷ image_words t.two ∷ []) words old.shelf.file session s rows h.asked t.users_are asks) in (
       text,
       printed,
-      shown (around rows old) (booted s rows) (first_state session s rows before) (steps_before session.start (booted s rows)) (length rows.lines) session.turns session.steps status text
+      shown (environment_of rows old) (booted s rows) (start_state session s rows before) (steps_before session.start (booted s rows)) (length rows.lines) session.turns session.steps status text
           t.one t.two t.one_is t.two_is shows,
     )

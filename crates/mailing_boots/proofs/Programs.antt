@@ -20,11 +20,11 @@ use Rattle.cvm_model.specs.Cvm.{System, first_flat}
 use Rattle.cvm_model.specs.Text.{rows_text}
 use Rattle.run_bounds.specs.Steps.{steps_for}
 use Rattle.run_scripts.specs.declared.exit_status.Status.{Status}
-use Rattle.run_scripts.specs.Boot.{booted, around, first_state, steps_before, IsHonest}
+use Rattle.run_scripts.specs.Boot.{booted, environment_of, start_state, steps_before, IsHonest}
 use Rattle.user_c0.specs.Image.{image_words}
 use Rattle.user_c0.specs.Program.{steps_of as most_steps}
-use Rattle.mailing.specs.Users.{Leg, CallsInTurn, ended, steps_of}
-use Rattle.mailing.specs.Property.{Message, sends, receives, numbers, AreSmall, turns_for, dispatches_for}
+use Rattle.mailing.specs.Users.{Leg, CallsInTurn, ended, leg_steps}
+use Rattle.mailing.specs.Property.{Message, sends, receives, message_numbers, AreSmall, turns_for, dispatches_for}
 use Rattle.mailing_boots.specs.Through.{untrapped_in, ComesThrough, ProgramsComeThrough, IsCountedThrough, CountsTellThrough}
 use Rattle.mailing_boots.specs.Boots.{report_of, MailShown, AnyUsersMail}
 use Rattle.mailing_boots.specs.Mailers.{zeros, asked_for, told_for, CanBeSent, AreMailers}
@@ -33,7 +33,7 @@ use Rattle.mailing_boots.specs.Compiled.{turns_by, ProgramMailShown, AnyPrograms
 -- TWO USERS' CALLS are those of messages
 record AreOf (ns : List ℕ) (sending receiving : List Leg) : Type 0 where
   messages : List Message
-  numbers_are : numbers messages ≡ ns
+  numbers_are : message_numbers messages ≡ ns
   sends_are : sends messages ≡ sending
   receives_are : receives messages ≡ receiving
 
@@ -80,7 +80,7 @@ are_of (n ∷ ns) (a ∷ sending) (b ∷ c ∷ receiving) says hears asks told =
     (tail_is c.argument n (arguments_of receiving) (asked_for ns) asks_then) (tail_is c.answer 0 (answers_of receiving) (told_for ns) told_then))
 
 -- COUNTS: of steps, and of messages
-steps_are : (legs : List Leg) (last : ℕ) → steps_of legs last ≡ suc (length legs) + untrapped_in legs last
+steps_are : (legs : List Leg) (last : ℕ) → leg_steps legs last ≡ suc (length legs) + untrapped_in legs last
 steps_are [] last = omega arith
 steps_are (leg ∷ legs) last = let h = steps_are legs last in omega (arith, h)
 
@@ -92,15 +92,15 @@ receives_count : (ms : List Message) → length (receives ms) ≡ 2 * length ms
 receives_count [] = omega arith
 receives_count (m ∷ ms) = let h = receives_count ms in omega (arith, h)
 
-numbers_count : (ms : List Message) → length (numbers ms) ≡ length ms
+numbers_count : (ms : List Message) → length (message_numbers ms) ≡ length ms
 numbers_count [] = refl
 numbers_count (m ∷ ms) = ap suc (numbers_count ms)
 
-are_small : (ms : List Message) → CanBeSent (numbers ms) → AreSmall ms
+are_small : (ms : List Message) → CanBeSent (message_numbers ms) → AreSmall ms
 are_small [] h = tt
 are_small (m ∷ ms) h = (h.0, h.1, are_small ms h.2)
 
-module _ (ns : List ℕ) (ms : List Message) (same : numbers ms ≡ ns) where
+module _ (ns : List ℕ) (ms : List Message) (same : message_numbers ms ≡ ns) where
   count : length ms ≡ length ns
   count = sym (numbers_count ms) ∙ ap length same
 
@@ -120,7 +120,7 @@ module _ (ns : List ℕ) (ms : List Message) (same : numbers ms ≡ ns) where
       let e = steps_are (receives ms) two in
       omega (arith, a, b, c, d, e, few_one, few_two)
 
-module _ (x : Environment) (y : System) (s : State) (late raised turns steps : ℕ) (one two : CUnit) (p q : ℕ) (ns : List ℕ) (ms : List Message) (same : numbers ms ≡ ns) (a b : ℕ)
+module _ (x : Environment) (y : System) (s : State) (late raised turns steps : ℕ) (one two : CUnit) (p q : ℕ) (ns : List ℕ) (ms : List Message) (same : message_numbers ms ≡ ns) (a b : ℕ)
     (calls_a : CallsInTurn (first_flat (image_words one)) (sends ms) a) (calls_b : CallsInTurn (first_flat (image_words two)) (receives ms) b)
     (few_a : untrapped_in (sends ms) a ≤ p) (few_b : untrapped_in (receives ms) b ≤ q) (status : Status) (text : List ℕ)
     (h : MailShown x y s late raised turns steps ms a b (first_flat (image_words one)) (first_flat (image_words two)) status text) where
@@ -155,7 +155,7 @@ Shows one two ns p q = (words : List (List ℕ)) (status : Status) (old new : Ou
     → (session : Session) (s : ImageSystem) (rows : Rows) (before : List (List ℕ)) → (h : IsHonest words session s rows before old new)
     → status ≢ Memory → session.view ≡ Boot → AsksSystem kernel_text (image_words one ∷ image_words two ∷ []) h.asked
     → (text : List ℕ) × (new.sink.text ≡ append_known old.sink.text text)
-    × ProgramMailShown (around rows old) (booted s rows) (first_state session s rows before) (steps_before session.start (booted s rows)) (length rows.lines) session.turns session.steps one two p q ns status text
+    × ProgramMailShown (environment_of rows old) (booted s rows) (start_state session s rows before) (steps_before session.start (booted s rows)) (length rows.lines) session.turns session.steps one two p q ns status text
 
 by_legs : AnyUsersMail → (one two : CUnit) (n k : ℕ) (ns : List ℕ) (m : AreMailers one two n k ns) (p q : ℕ)
     → (c : ComesThrough (first_flat (image_words one)) (most_steps n) ns (zeros ns)) → untrapped_in c.legs c.last ≤ p
@@ -172,7 +172,7 @@ by_legs law one two n k ns m p q c few_c d few_d words status old new headlines 
     (are_small z.messages (subst CanBeSent (sym z.numbers_are) m.small)) (omega (arith, long, few)) words status old new headlines session s rows before h some view system in (
       text,
       printed,
-      shown (around rows old) (booted s rows) (first_state session s rows before) (steps_before session.start (booted s rows)) (length rows.lines) session.turns session.steps one two p q ns z.messages z.numbers_are
+      shown (environment_of rows old) (booted s rows) (start_state session s rows before) (steps_before session.start (booted s rows)) (length rows.lines) session.turns session.steps one two p q ns z.messages z.numbers_are
           c.last d.last sending receiving (subst (λ legs. untrapped_in legs c.last ≤ p) (sym z.sends_are) few_c) (subst (λ legs. untrapped_in legs d.last ≤ q) (sym z.receives_are) few_d) status text shows,
     )
 

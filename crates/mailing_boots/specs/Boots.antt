@@ -17,13 +17,13 @@ use Rattle.run_scripts.specs.declared.exit_status.Status.{Status}
 use Rattle.run_scripts.specs.declared.exit_status.Status.TheVariants.{Done, KernelFault, Memory}
 use Rattle.run_scripts.specs.declared.session.Session.{Session}
 use Rattle.cvm_outside.specs.Outside.{Outside}
-use Rattle.run_scripts.specs.Boot.{booted, around, first_state, steps_before, IsHonest}
+use Rattle.run_scripts.specs.Boot.{booted, environment_of, start_state, steps_before, IsHonest}
 use Rattle.run_scripts.specs.CommandEnds.{Headlines}
 use Rattle.kernel_boots.specs.Boots.{turns_made}
 use Rattle.kernel_boots.specs.Systems.{AsksSystem, SystemShown}
 use Rattle.mailing.specs.Text.{text as kernel_text}
 use Rattle.mailing.specs.Users.{CallsInTurn, ended}
-use Rattle.mailing.specs.Property.{Message, sends, receives, numbers, AreSmall, Mailing, IsCarried, turns_for, dispatches_for}
+use Rattle.mailing.specs.Property.{Message, sends, receives, message_numbers, AreSmall, Mailing, IsCarried, turns_for, dispatches_for}
 
 -- the report of the system once it has halted: the kernel's data, the messages' numbers in order, and these machines
 abbrev pub report_of : (messages : List ℕ) → List Flat → List ℕ
@@ -40,7 +40,7 @@ pub record MailShown (x : Environment) (y : System) (s : State) (late raised tur
   pub no_fault : status ≢ KernelFault
   pub halted : turns_for ms one two + raised ≤ turns → steps_for y (turns_for ms one two + raised) (dispatches_for ms + raised) 200 0 + late ≤ steps
       → (status ≡ Done) × (shown.stands.state.status ≡ Halted) × (length shown.stands.state.rows ≤ dispatches_for ms + raised)
-      × (text ≡ rows_text shown.stands.state.rows ++ report_of (numbers ms) (ended f (sends ms) one ∷ ended g (receives ms) two ∷ []))
+      × (text ≡ rows_text shown.stands.state.rows ++ report_of (message_numbers ms) (ended f (sends ms) one ∷ ended g (receives ms) two ∷ []))
 
 -- EACH BOOT of an image with the kernel's text and two such users shows this, under every schedule
 abbrev pub AnyUsersMail : Type 0
@@ -50,5 +50,5 @@ AnyUsersMail = (sender receiver : List ℕ) (ms : List Message) (one two : ℕ) 
     → (session : Session) (s : ImageSystem) (rows : Rows) (before : List (List ℕ)) → (h : IsHonest words session s rows before old new)
     → status ≢ Memory → session.view ≡ Boot → AsksSystem kernel_text (sender ∷ receiver ∷ []) h.asked
     → (text : List ℕ) × (new.sink.text ≡ append_known old.sink.text text)
-    × MailShown (around rows old) (booted s rows) (first_state session s rows before) (steps_before session.start (booted s rows)) (length rows.lines) session.turns session.steps
+    × MailShown (environment_of rows old) (booted s rows) (start_state session s rows before) (steps_before session.start (booted s rows)) (length rows.lines) session.turns session.steps
     ms one two (first_flat sender) (first_flat receiver) status text

@@ -19,14 +19,14 @@ use Rattle.run_scripts.specs.declared.exit_status.Status.{Status}
 use Rattle.run_scripts.specs.declared.exit_status.Status.TheVariants.{Done, KernelFault, Memory}
 use Rattle.run_scripts.specs.declared.session.Session.{Session}
 use Rattle.cvm_outside.specs.Outside.{Outside}
-use Rattle.run_scripts.specs.Boot.{booted, around, first_state, steps_before, IsHonest}
+use Rattle.run_scripts.specs.Boot.{booted, environment_of, start_state, steps_before, IsHonest}
 use Rattle.run_scripts.specs.CommandEnds.{Headlines}
 use Rattle.kernel_boots.specs.Boots.{AsksSource}
 use Rattle.kernel_boots.specs.Systems.{AsksSystem}
 use Rattle.kernel_boots.specs.Linked.{IsLinkedOf}
 use Rattle.mailing.specs.Text.{text as kernel_text}
 use Rattle.mailing.specs.Users.{CallsInTurn, ended}
-use Rattle.mailing.specs.Property.{Message, sends, receives, numbers}
+use Rattle.mailing.specs.Property.{Message, sends, receives, message_numbers}
 use Rattle.mailing_boots.specs.Through.{untrapped_in, IsCountedThrough}
 use Rattle.mailing_boots.specs.Boots.{report_of, MailShown}
 use Rattle.mailing_boots.specs.Mailers.{AreMailers, zeros, told_for, one_to_ten}
@@ -41,7 +41,7 @@ turns_by sending receiving messages = 3 + 3 * messages + sending + receiving
 -- these steps, each trap, the schedule's `line` rows and one, and the steps of the machine for them, it is done, has halted, and reports the numbers in order
 pub record ProgramMailShown (x : Environment) (y : System) (s : State) (late raised turns steps : ℕ) (one two : CUnit) (sending receiving : ℕ) (ns : List ℕ) (status : Status) (text : List ℕ) : Type 0 where
   pub messages : List Message
-  pub numbers_are : numbers messages ≡ ns
+  pub numbers_are : message_numbers messages ≡ ns
   pub sender_last : ℕ
   pub receiver_last : ℕ
   pub sender_calls : CallsInTurn (first_flat (image_words one)) (sends messages) sender_last
@@ -61,7 +61,7 @@ AnyProgramsMail = (one two : CUnit) (n k : ℕ) (ns : List ℕ) → AreMailers o
     → (session : Session) (s : ImageSystem) (rows : Rows) (before : List (List ℕ)) → (h : IsHonest words session s rows before old new)
     → status ≢ Memory → session.view ≡ Boot → AsksSystem kernel_text (image_words one ∷ image_words two ∷ []) h.asked
     → (text : List ℕ) × (new.sink.text ≡ append_known old.sink.text text)
-    × ProgramMailShown (around rows old) (booted s rows) (first_state session s rows before) (steps_before session.start (booted s rows)) (length rows.lines) session.turns session.steps
+    × ProgramMailShown (environment_of rows old) (booted s rows) (start_state session s rows before) (steps_before session.start (booted s rows)) (length rows.lines) session.turns session.steps
     one two (most_steps n) (most_steps k) ns status text
 
 -- AND WHERE THEIR STEPS ARE COUNTED, by just these
@@ -72,7 +72,7 @@ AnyCountedProgramsMail = (one two : CUnit) (n k : ℕ) (ns : List ℕ) (sending 
     → (session : Session) (s : ImageSystem) (rows : Rows) (before : List (List ℕ)) → (h : IsHonest words session s rows before old new)
     → status ≢ Memory → session.view ≡ Boot → AsksSystem kernel_text (image_words one ∷ image_words two ∷ []) h.asked
     → (text : List ℕ) × (new.sink.text ≡ append_known old.sink.text text)
-    × ProgramMailShown (around rows old) (booted s rows) (first_state session s rows before) (steps_before session.start (booted s rows)) (length rows.lines) session.turns session.steps
+    × ProgramMailShown (environment_of rows old) (booted s rows) (start_state session s rows before) (steps_before session.start (booted s rows)) (length rows.lines) session.turns session.steps
     one two sending receiving ns status text
 
 -- what is printed of the kernel's data and of the console
@@ -81,16 +81,16 @@ mail_lines =
     codes "halted\nglobal box 0\nglobal waits 0\nglobal over 3\ncon 00000001\ncon 00000002\ncon 00000003\ncon 00000004\ncon 00000005\ncon 00000006\ncon 00000007\ncon 00000008\ncon 00000009\ncon 0000000a\n"
 
 -- THE NAMED SYSTEM: whatever the programs' trees are, with their places in the text, what was sent was printed, once and in order, but for three messages at most;
--- the status is no kernel's fault; and under a schedule of L `line` rows, with 347 turns and L more, and the steps of the machine for them, it is done, has
+-- the status is no kernel's fault; and under a schedule of L `line` rows, with 343 turns and L more, and the steps of the machine for them, it is done, has
 -- halted, and its text is at most 33 + L rows and then the report: the numbers from 1 to 10 on the console, and each user's machine behind its end
 pub record NamedMailShown (x : Environment) (y : System) (s : State) (late raised turns steps : ℕ) (status : Status) (text : List ℕ) : Type 0 where
   pub one : CUnit
   pub two : CUnit
   pub one_is : IsUnitAs User sender_text one
   pub two_is : IsUnitAs User receiver_text two
-  pub shows : ProgramMailShown x y s late raised turns steps one two 142 172 one_to_ten status text
+  pub shows : ProgramMailShown x y s late raised turns steps one two 140 170 one_to_ten status text
   pub no_fault : status ≢ KernelFault
-  pub halted : 347 + raised ≤ turns → steps_for y (347 + raised) (33 + raised) 200 0 + late ≤ steps
+  pub halted : 343 + raised ≤ turns → steps_for y (343 + raised) (33 + raised) 200 0 + late ≤ steps
       → (status ≡ Done) × (length shows.shows.shown.stands.state.rows ≤ 33 + raised)
       × (text ≡ rows_text shows.shows.shown.stands.state.rows ++ (mail_lines
       ++ users_text 1 (ended (first_flat (image_words one)) (sends shows.messages) shows.sender_last ∷ ended (first_flat (image_words two)) (receives shows.messages) shows.receiver_last ∷ [])))
@@ -101,9 +101,9 @@ CompiledMailBoots = (words : List (List ℕ)) (status : Status) (old new : Outsi
     → (session : Session) (s : ImageSystem) (rows : Rows) (before : List (List ℕ)) → (h : IsHonest words session s rows before old new)
     → status ≢ Memory → session.view ≡ Boot → AsksSource kernel_text h.asked → (layer : Map → List ℕ → List ℕ) → IsLinkedOf layer sender_text receiver_text s
     → (text : List ℕ) × (new.sink.text ≡ append_known old.sink.text text)
-    × NamedMailShown (around rows old) (booted s rows) (first_state session s rows before) (steps_before session.start (booted s rows)) (length rows.lines) session.turns session.steps status text
+    × NamedMailShown (environment_of rows old) (booted s rows) (start_state session s rows before) (steps_before session.start (booted s rows)) (length rows.lines) session.turns session.steps status text
 
 -- THE STEPS in numbers: with 32 pages for each user, 48 frames and no busy times, so many for L `line` rows, before those of a ROM
 abbrev pub MailStepsAreFew : Type 0
 MailStepsAreFew = (s : ImageSystem) (rows : Rows) (raised : ℕ) → s.params.pages ≡ 32 → s.params.frames ≡ 48 → length s.users ≡ 2 → longest rows ≡ 0
-    → steps_for (booted s rows) (347 + raised) (33 + raised) 200 0 ≡ 144274827 + 526097 * raised
+    → steps_for (booted s rows) (343 + raised) (33 + raised) 200 0 ≡ 142658439 + 526097 * raised

@@ -71,7 +71,7 @@ pub record MailersCall : Type 0 where
   pub sends : prog sender (ints (zeros one_to_ten)) 400 ≡ record { arguments = ints one_to_ten; ending = done }
   pub receives : prog receiver (ints (told_for one_to_ten)) 600 ≡ record { arguments = ints (asked_for one_to_ten); ending = done }
 
--- A LAW: their images make 142 untrapped steps and 172, counted; the traps are 11 and 21
+-- A LAW: their images make 140 untrapped steps and 170, counted; the traps are 11 and 21
 pub record MailersAreCounted : Type 0 where
-  pub sending : IsCountedThrough (first_flat (image_words sender)) (zeros one_to_ten) 142
-  pub receiving : IsCountedThrough (first_flat (image_words receiver)) (told_for one_to_ten) 172
+  pub sending : IsCountedThrough (first_flat (image_words sender)) (zeros one_to_ten) 140
+  pub receiving : IsCountedThrough (first_flat (image_words receiver)) (told_for one_to_ten) 170

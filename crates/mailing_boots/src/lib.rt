@@ -14,7 +14,7 @@ use kernel_linker::laws::accepted_systems_are_of_their_images;
 use kernel_theorems::{program_texts_mean_trees, texts_mean_trees};
 use mailing::{mail_ends, mail_is_kept, text_is_tree};
 use mips_table::runs::turns_are_counted;
-use program_systems::{calls_come, counts_tell, ends_come, images_ignore_places};
+use program_systems::{calls_come, counts_tell, ends_come, images_ignore_spans};
 use run_bounds::{bounds_are_small, lines_taken_are_few, raised_lines_are_few};
 use user_c0::users::{ints_are_told, users_go_on};
 
@@ -76,7 +76,7 @@ pub fn mailers_call()
     ensures { MailersCall }
 {}
 
-/// A law: their images make 142 and 172 untrapped steps.
+/// A law: their images make 140 and 170 untrapped steps.
 pub fn mailers_are_counted()
     ensures { MailersAreCounted }
 {
@@ -89,7 +89,7 @@ pub fn texts_are_mailers()
 {}
 
 /// A law: so it is of each boot of an image that was linked of what `compile program` put of the two texts: the numbers from 1 to 10 are printed in order,
-/// and it halts with 347 turns more than the schedule has `line` rows, which are those that it takes without them.
+/// and it halts with 343 turns more than the schedule has `line` rows, which are those that it takes without them.
 pub fn compiled_mail_boots()
     ensures { CompiledMailBoots }
 {
@@ -98,12 +98,12 @@ pub fn compiled_mail_boots()
     program_texts_mean_trees();
     texts_are_mailers();
     mailers_call();
-    images_ignore_places();
+    images_ignore_spans();
     mailers_are_counted();
     any_counted_programs_mail();
 }
 
-/// A law: with 32 pages for each user, 48 frames and no busy times the steps that `compiled_mail_boots` asks for are 144,274,827, and 526,097 more for each
+/// A law: with 32 pages for each user, 48 frames and no busy times the steps that `compiled_mail_boots` asks for are 142,658,439, and 526,097 more for each
 /// `line` row.
 pub fn steps_are_few()
     ensures { MailStepsAreFew }

@@ -9,7 +9,7 @@ use Rattle.mips_table.specs.Device.{Idle}
 use Rattle.mips_table.specs.Code.{Contents, reg, Behind, World, Sound, at_with, settle, Reaches, CodeAt}
 use Rattle.masm.specs.Blocks.{when_code, back_code, loop_code}
 use Rattle.masm.specs.Laws.{BlocksInRange, WhenRuns, LoopRuns, ReturnRuns}
-use Rattle.masm.proofs.Runs.{joined, later, idle_settle, settled, to_there, code_front, code_back}
+use Rattle.masm.proofs.RunsCompose.{joined, later, idle_settle, settled, to_there, code_front, code_back}
 use Rattle.masm.proofs.Jumps.{led, taken, taken_back, passed}
 
 module _ (w : World) (f : Sound w) where

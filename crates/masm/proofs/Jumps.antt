@@ -4,10 +4,10 @@ use Rattle.std.proofs.lemmas.Bool.{cond-true, cond-false}
 use Rattle.mips_table.specs.declared.inst.Inst.{Inst}
 use Rattle.mips_table.specs.declared.effect.Effect.TheVariants.{Set}
 use Rattle.mips_table.specs.Arith.{extended}
-use Rattle.mips_table.specs.Effect.{next, branch, jump_target}
+use Rattle.mips_table.specs.Effect.{next_address, branch, jump_target}
 use Rattle.mips_table.specs.Code.{Contents, with_reg, Behind, World, Sound, at_with, settle, acted, EffectMay, effect_at, act, Reaches}
 use Rattle.masm.specs.Laws.{JumpsLead}
-use Rattle.masm.proofs.Runs.{step_to}
+use Rattle.masm.proofs.RunsCompose.{step_to}
 
 module _ (w : World) (f : Sound w) where
   -- an instruction that sets the pc to a word's address
@@ -39,7 +39,7 @@ module _ (w : World) (f : Sound w) where
   taken_back i k to len b c d at e so back pos le =
       led i k to 0 0 c d at (e ∙ ap (λ t. Set 0 0 (branch (4 * k) (65536 - len) t)) so ∙ ap (Set 0 0) (backward k to len (f.inside k i at) back le pos))
 
-  pub after : (i : Inst) (k : ℕ) → w.code k ≡ Some i → next (4 * k) ≡ 4 * (k + 1)
+  pub after : (i : Inst) (k : ℕ) → w.code k ≡ Some i → next_address (4 * k) ≡ 4 * (k + 1)
   after i k at = let lt = f.inside k i at in let s = f.small in omega arith
 
   pub passed : (i : Inst) (k imm : ℕ) (b : Bool) (c : Contents) (d : Behind) → w.code k ≡ Some i → effect_at i k c ≡ Set 0 0 (branch (4 * k) imm b) → b ≡ false → Reaches w 1 (at_with k c d) (settle (k + 1) c d)

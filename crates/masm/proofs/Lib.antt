@@ -1,10 +1,10 @@
-pub mod Runs
-pub mod Straight
+pub mod RunsCompose
+pub mod StraightBlocks
 pub mod Jumps
 pub mod Blocks
 pub mod Loops
 pub mod Routines
-pub mod Standing
+pub mod BlocksStand
 mod RegistersStay
 mod Copy
 mod Wait

@@ -4,7 +4,7 @@ use Rattle.std.proofs.lemmas.Bool.{cases_eq}
 use Rattle.mips_table.specs.Code.{Contents, reg, Behind, World, Sound, at_with, Reaches, CodeAt}
 use Rattle.masm.specs.Blocks.{loop_code}
 use Rattle.masm.specs.Laws.{LoopRuns, LoopPays}
-use Rattle.masm.proofs.Runs.{joined, later}
+use Rattle.masm.proofs.RunsCompose.{joined, later}
 use Rattle.masm.proofs.Blocks.{loop_laws}
 
 pub loop_pays : {A : Type 0} (w : World) (S T R : A → Contents → Behind → Type 0) → Sound w → LoopPays w A S T R

@@ -10,8 +10,8 @@ use Rattle.mips_table.specs.Code.{Contents, reg, Behind, World, Sound, CodeState
 use Rattle.masm.specs.Says.{Says, straight, AllSaid, sayings, tellings}
 use Rattle.masm.specs.Blocks.{when_code, loop_code}
 use Rattle.masm.specs.Laws.{WhenRuns, From}
-use Rattle.masm.proofs.Runs.{empty, joined, followed, later, code_front, code_back}
-use Rattle.masm.proofs.Straight.{straight_runs}
+use Rattle.masm.proofs.RunsCompose.{empty, joined, followed, later, code_front, code_back}
+use Rattle.masm.proofs.StraightBlocks.{straight_runs}
 use Rattle.masm.proofs.Blocks.{when_laws, returning}
 use Rattle.masm.proofs.Loops.{loop_pays}
 

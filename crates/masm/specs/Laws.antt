@@ -4,7 +4,7 @@ use Rattle.mips_table.specs.declared.inst.Inst.{Inst}
 use Rattle.mips_table.specs.declared.inst.Inst.TheVariants.{Jr}
 use Rattle.mips_table.specs.declared.effect.Effect.TheVariants.{Set, Store}
 use Rattle.mips_table.specs.Arith.{signed_quotient, signed_remainder}
-use Rattle.mips_table.specs.Effect.{branch, divided, jump_target, next}
+use Rattle.mips_table.specs.Effect.{branch, division_effect, jump_target, next_address}
 use Rattle.mips_table.specs.Encoding.{InRange, encoding}
 use Rattle.mips_table.specs.Device.{Idle, COMMAND, SECTOR}
 use Rattle.mips_table.specs.Code.{Contents, reg, with_reg, Behind, World, Sound, CodeState, at_with, settle, commanded, effect_at, act, May, Reaches, CodeAt, Does}
@@ -45,8 +45,8 @@ pub record StraightRuns (w : World) : Type 0 where
   pub one : (i : Inst) (h : Says) (n : ℕ) (c : Contents) (d : Behind) → w.code n ≡ Some i → falls_through i ≡ true → Said w i c d (effect_at i n c) h → Reaches w 1 (at_with n c d) (settle (n + 1) (said i c (effect_at i n c) h) (ports_after d h))
   pub next : (i : Inst) (h : Says) (n : ℕ) (c : Contents) (d : Behind) → w.code n ≡ Some i → falls_through i ≡ true → d.pending ≡ Idle → Said w i c d (effect_at i n c) h → Reaches w 1 (at_with n c d) (at_with (n + 1) (said i c (effect_at i n c) h) (ports_after d h))
   pub all : (is : List Inst) (hs : List Says) (n : ℕ) (c : Contents) (d : Behind) → CodeAt w n is → straight is ≡ true → d.pending ≡ Idle → AllSaid w n is hs c d → Reaches w (length is) (at_with n c d) (at_with (n + length is) (sayings n is hs c) (tellings hs d))
-  pub division : (i : Inst) (c : Contents) (d : Behind) (a b pc hi lo : ℕ) → b ≢ 0 → Said w i c d (divided a b pc hi lo) (Widens (signed_remainder a b) (signed_quotient a b))
-  pub by_zero : (i : Inst) (c : Contents) (d : Behind) (a b pc hi lo : ℕ) → b ≡ 0 → Said w i c d (divided a b pc hi lo) (Widens hi lo)
+  pub division : (i : Inst) (c : Contents) (d : Behind) (a b pc hi lo : ℕ) → b ≢ 0 → Said w i c d (division_effect a b pc hi lo) (Widens (signed_remainder a b) (signed_quotient a b))
+  pub by_zero : (i : Inst) (c : Contents) (d : Behind) (a b pc hi lo : ℕ) → b ≡ 0 → Said w i c d (division_effect a b pc hi lo) (Widens hi lo)
   pub command : (i : Inst) (n v : ℕ) (c : Contents) (d : Behind) → w.code n ≡ Some i → effect_at i n c ≡ Store (4 * COMMAND) v → w.system ≡ true → w.kept COMMAND ≡ None → d.pending ≡ Idle → c.memory SECTOR < w.count → Reaches w 1 (at_with n c d) (settle (n + 1) c (commanded w d (c.memory SECTOR) v))
 
 -- Where branches and jumps lead. Each is named by its effect, which computes: a branch's with a test b, a jump's with an index, and
@@ -57,7 +57,7 @@ pub record JumpsLead (w : World) : Type 0 where
   pub passed : (i : Inst) (k imm : ℕ) (b : Bool) (c : Contents) (d : Behind) → w.code k ≡ Some i → effect_at i k c ≡ Set 0 0 (branch (4 * k) imm b) → b ≡ false → Reaches w 1 (at_with k c d) (settle (k + 1) c d)
   pub jumped : (i : Inst) (k index r v : ℕ) (c : Contents) (d : Behind) → w.code k ≡ Some i → effect_at i k c ≡ Set r v (jump_target (4 * k) index) → Reaches w 1 (at_with k c d) (settle index (with_reg c r v) d)
   pub led : (i : Inst) (k to r v : ℕ) (c : Contents) (d : Behind) → w.code k ≡ Some i → effect_at i k c ≡ Set r v (4 * to) → Reaches w 1 (at_with k c d) (settle to (with_reg c r v) d)
-  pub after : (i : Inst) (k : ℕ) → w.code k ≡ Some i → next (4 * k) ≡ 4 * (k + 1)
+  pub after : (i : Inst) (k : ℕ) → w.code k ≡ Some i → next_address (4 * k) ≡ 4 * (k + 1)
 
 -- A body under a condition: where the register is 0 it is passed over in one step; where it isn't, it is entered in one step, and
 -- what it leads to by its end is where the block ends.
@@ -85,7 +85,7 @@ ReturnRuns w body = (n m to : ℕ) (c : Contents) (d : Behind) (c' : Contents) (
 abbrev pub From : World → List Inst → ℕ → Contents → Behind → (Contents → Behind → Type 0) → Type 0
 From w is n c0 d0 Q = Does w is n (λ c d. (c ≡ c0) × (d ≡ d0)) Q
 
--- A loop whose turns are paid for. Beside the machine's state there is one of the loop's own, that `next` leads on; `before` holds of
+-- A loop whose turns are paid for. Beside the machine's state there is one of the loop's own, that `next_address` leads on; `before` holds of
 -- both before each test, which takes `tests` steps at most, and `tested` after it; a turn's body takes `takes`, and `cost` is what is left to be
 -- spent. So no number of turns is asked for, and turns may cost different amounts. `ends` holds where the register is 0.
 pub record Pays (w : World) (test : List Inst) (r : ℕ) (body : List Inst) (State : Type 0) (before tested ends : State → Contents → Behind → Type 0) (tests : ℕ) (takes cost : State → ℕ) (next : State → State) : Type 0 where

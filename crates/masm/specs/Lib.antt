@@ -1,6 +1,6 @@
 pub mod Says
 pub mod Blocks
-pub mod Places
+pub mod CodeAddresses
 pub mod Laws
 pub mod Standing
 pub mod Copy

@@ -5,7 +5,7 @@
 ghost use Rattle.mips_table.specs.declared.inst.Inst.{Inst};
 ghost use Rattle.std.specs.Prelude.{ℕ, List, ◌<◌, ◌≤◌, ◌+◌, length};
 ghost use Rattle.mips_table.specs.Code.{Contents, Behind, World, Sound};
-ghost use Rattle.masm.specs.Places.{CallsLead};
+ghost use Rattle.masm.specs.CodeAddresses.{CallsLead};
 ghost use Rattle.masm.specs.Standing.{BlockStands};
 ghost use Rattle.masm.specs.Stays.{RegistersStay};
 ghost use Rattle.masm.specs.Laws.{RunsCompose, StraightRuns, JumpsLead, WhenRuns, LoopRuns, BlocksInRange, LoopPays, ReturnRuns, WordsAreEncodings};

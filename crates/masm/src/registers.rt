@@ -44,9 +44,9 @@ pub const STACK_END: u32 = layer_map::STACK_END;
 /// The return address.
 pub const RETURN: u32 = layer_map::RETURN;
 
-/// First addresses, in bytes, of what the code of a unit names. Each is a multiple of 4 below 0x10000000: contracts say so by `ArePlaces`.
+/// First addresses, in bytes, of what the code of a unit names. Each is a multiple of 4 below 0x10000000: contracts say so by `AreCodeAddresses`.
 #[derive(Drop)]
-pub struct Places {
+pub struct CodeAddresses {
     /// The globals.
     pub globals: u32,
     /// The exits of a use of null, an index out of bounds, a division by zero and a want of stack.

@@ -8,7 +8,7 @@ use Rattle.std.proofs.Math.Nat.{div-div-eq-div-mul}
 use Rattle.std.proofs.lemmas.Bool.{and_from}
 use Rattle.std.proofs.lemmas.Bool.Decides.{nat_tests}
 use Rattle.cvm_text.specs.Hex.{hex8, hex_digit}
-use Rattle.mips_asm.specs.Number.{number}
+use Rattle.mips_asm.specs.Number.{number_value}
 use Rattle.mips_asm.proofs.Tokens.{token}
 
 digit_is_hex : (d : ℕ) → d < 16 → is_ascii_hexdigit (hex_digit d) ≡ true
@@ -23,7 +23,7 @@ digit_back d small = grind (arith, nat_tests)
 -- a test that each digit passes
 hex8_all : (p : ℕ → Bool) (value : ℕ) → ((d : ℕ) → d < 16 → p (hex_digit d) ≡ true) → list_all p (hex8 value) ≡ true
 hex8_all p value h =
-    let at = λ (place : ℕ). h (value / 16 ^ place % 16) (omega arith) in
+    let at = λ (position : ℕ). h (value / 16 ^ position % 16) (omega arith) in
     and_from _ _ (at 7) (and_from _ _ (at 6) (and_from _ _ (at 5) (and_from _ _ (at 4) (and_from _ _ (at 3) (and_from _ _ (at 2) (and_from _ _ (at 1) (and_from _ _ (at 0) refl)))))))
 
 pub hex8_token : (value : ℕ) → list_all token (hex8 value) ≡ true
@@ -33,8 +33,8 @@ pub hex8_digits : (value : ℕ) → list_all is_ascii_hexdigit (hex8 value) ≡ 
 hex8_digits value = hex8_all is_ascii_hexdigit value digit_is_hex
 
 -- one digit more
-step : (value high low place n : ℕ) → high ≡ low * 16 → n ≡ value / high → n * 16 + digit_value (hex_digit (value / low % 16)) ≡ value / low
-step value high low place n is before =
+step : (value high low position n : ℕ) → high ≡ low * 16 → n ≡ value / high → n * 16 + digit_value (hex_digit (value / low % 16)) ≡ value / low
+step value high low position n is before =
     let d = digit_back (value / low % 16) (omega arith) in
     let q : value / low / 16 ≡ value / high = div-div-eq-div-mul value low 16 ∙ ap (λ m. value / m) (sym is) in
     omega (arith, d, q, before)
@@ -51,6 +51,6 @@ hex8_value value small =
     let s0 = step value (16 ^ 1) (16 ^ 0) 0 _ refl s1 in
     s0 ∙ omega arith
 
-pub hex8_number : (value : ℕ) → value < 2 ^ 32 → number (48 ∷ (120 ∷ hex8 value)) ≡ Some (pos value)
+pub hex8_number : (value : ℕ) → value < 2 ^ 32 → number_value (48 ∷ (120 ∷ hex8 value)) ≡ Some (pos value)
 hex8_number value small =
     ap (λ b. option_map pos (cond b (Some (digits_value 16 (hex8 value))) None)) (hex8_digits value) ∙ ap (λ n. Some (pos n)) (hex8_value value small)

@@ -12,11 +12,11 @@ use Rattle.mips_table.specs.Encoding.{InRange, encoding}
 use Rattle.mips_table.specs.Decoding.{decoding}
 use Rattle.mips_table.specs.Rows.{mnemonic_of}
 use Rattle.mips_asm.specs.declared.listing.Written.{Written}
-use Rattle.mips_asm.specs.Number.{number, in_name}
+use Rattle.mips_asm.specs.Number.{number_value, in_name}
 use Rattle.mips_asm.specs.Text.{trim, content, colon_parts, labels_in, after_labels, is_good_byte}
 use Rattle.mips_asm.specs.Line.{bad_byte, out_of_range, nothing, word, word_directive, mnemonic_len, named, statement, of_parts, line_meaning}
 use Rattle.mips_asm.specs.Assembled.{labels}
-use Rattle.mips_asm.specs.Listing.{operand_text, listed, operands, line_for}
+use Rattle.mips_asm.specs.Listing.{operand_text, listed_operands, operands, line_for}
 use Rattle.mips_asm.specs.Back.{ReadsBack}
 use Rattle.mips_asm.proofs.PrefixLengths.{both, prefix_len_all}
 use Rattle.mips_asm.proofs.Tokens.{token, all_imply, all_append, front_len, not_blank, trim_blank}
@@ -99,28 +99,28 @@ statement_is m rest some all ends =
     ∙ ap (λ n. named (take n line) (drop n line)) (mnemonic_len_is m rest some all ends)
     ∙ ap (λ t. named t (drop (length m) line)) (take-append_seam m rest) ∙ ap (named m) (drop-append_seam m rest)
 
-rest_ends : (os : List Written) → prefix_len in_name (listed (codes " ") os) ≡ 0
+rest_ends : (os : List Written) → prefix_len in_name (listed_operands (codes " ") os) ≡ 0
 rest_ends [] = refl
 rest_ends (o ∷ os) = refl
 
 -- the operands are plain
-listed_plain : (before : List ℕ) (os : List Written) → list_all plain before ≡ true → AllSmall os → list_all plain (listed before os) ≡ true
+listed_plain : (before : List ℕ) (os : List Written) → list_all plain before ≡ true → AllSmall os → list_all plain (listed_operands before os) ≡ true
 listed_plain before [] start small = refl
 listed_plain before (o ∷ os) start small =
-    all_append plain (before ++ operand_text o) (listed (codes ", ") os)
+    all_append plain (before ++ operand_text o) (listed_operands (codes ", ") os)
     (all_append plain before (operand_text o) start (all_imply token plain token_plain (operand_text o) (written_token o small.0)))
     (listed_plain (codes ", ") os refl small.1)
 
-instruction_line : (i : Inst) → InRange i → list_all plain (mnemonic_of i ++ listed (codes " ") (operands i)) ≡ true
+instruction_line : (i : Inst) → InRange i → list_all plain (mnemonic_of i ++ listed_operands (codes " ") (operands i)) ≡ true
 instruction_line i range =
-    all_append plain (mnemonic_of i) (listed (codes " ") (operands i))
+    all_append plain (mnemonic_of i) (listed_operands (codes " ") (operands i))
     (all_imply token plain token_plain (mnemonic_of i) (all_imply in_mnemonic token mnemonic_token (mnemonic_of i) (mnemonic_bytes i)))
     (listed_plain (codes " ") (operands i) refl (operands_small i range))
 
-instruction_means : (i : Inst) → InRange i → line_meaning (mnemonic_of i ++ listed (codes " ") (operands i)) ≡ word (encoding i)
+instruction_means : (i : Inst) → InRange i → line_meaning (mnemonic_of i ++ listed_operands (codes " ") (operands i)) ≡ word (encoding i)
 instruction_means i range =
     let m = mnemonic_of i in
-    let rest = listed (codes " ") (operands i) in
+    let rest = listed_operands (codes " ") (operands i) in
     let names = all_imply in_mnemonic in_name mnemonic_name m (mnemonic_bytes i) in
     let tokens = all_imply in_mnemonic token mnemonic_token m (mnemonic_bytes i) in
     meaning_is (m ++ rest) (instruction_line i range) (first_no_blank m rest (mnemonic_some i) tokens)
@@ -130,14 +130,14 @@ instruction_means i range =
 directive_line : (value : ℕ) → list_all plain (codes ".word 0x" ++ hex8 value) ≡ true
 directive_line value = all_append plain (codes ".word 0x") (hex8 value) refl (all_imply token plain token_plain (hex8 value) (hex8_token value))
 
-directive_statement : (value : ℕ) → statement (codes ".word 0x" ++ hex8 value) ≡ word_directive (number (trim (32 ∷ (48 ∷ (120 ∷ hex8 value)))))
+directive_statement : (value : ℕ) → statement (codes ".word 0x" ++ hex8 value) ≡ word_directive (number_value (trim (32 ∷ (48 ∷ (120 ∷ hex8 value)))))
 unfolding statement
 directive_statement value = refl
 
 directive_means : (value : ℕ) → value < 2 ^ 32 → line_meaning (codes ".word 0x" ++ hex8 value) ≡ word value
 directive_means value small =
     meaning_is (codes ".word 0x" ++ hex8 value) (directive_line value) refl ∙ directive_statement value
-    ∙ ap (λ t. word_directive (number t)) (trim_blank (48 ∷ (120 ∷ hex8 value)) (hex8_token value))
+    ∙ ap (λ t. word_directive (number_value t)) (trim_blank (48 ∷ (120 ∷ hex8 value)) (hex8_token value))
     ∙ ap word_directive (hex8_number value small)
     ∙ ap (λ b. cond b (word value) (out_of_range (pos value) 1)) (le-leb value 4294967295 (omega arith))
 
@@ -148,8 +148,8 @@ one_line line all = none_at 10 line (all_imply plain (λ c. not (c == 10)) plain
 of_instruction : (value : ℕ) (i : Inst) → decoding value ≡ Some i → InRange i → encoding i ≡ value → ReadsBack value
 of_instruction value i is range back = record {
   means = ap (λ o. line_meaning (line_for value o)) is ∙ instruction_means i range ∙ ap word back;
-  unlabelled = ap (λ o. labels (line_for value o)) is ∙ no_labels (mnemonic_of i ++ listed (codes " ") (operands i)) (instruction_line i range);
-  one_line = subst (λ o. All (λ c. (c == 10) ≡ false) (line_for value o)) (sym is) (one_line (mnemonic_of i ++ listed (codes " ") (operands i)) (instruction_line i range));
+  unlabelled = ap (λ o. labels (line_for value o)) is ∙ no_labels (mnemonic_of i ++ listed_operands (codes " ") (operands i)) (instruction_line i range);
+  one_line = subst (λ o. All (λ c. (c == 10) ≡ false) (line_for value o)) (sym is) (one_line (mnemonic_of i ++ listed_operands (codes " ") (operands i)) (instruction_line i range));
 }
 
 of_directive : (value : ℕ) → decoding value ≡ None → value < 2 ^ 32 → ReadsBack value

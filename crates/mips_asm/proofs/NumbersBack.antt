@@ -12,7 +12,7 @@ use Rattle.std.proofs.lemmas.Fmt.{decimal_is_IsNumeral, decimal_digit, first_dec
 use Rattle.std.proofs.lemmas.Str.Parse.{digit_from_value}
 use Rattle.std.proofs.lemmas.Bool.{and_from, cases_eq, cases_lt}
 use Rattle.std.proofs.lemmas.Bool.Decides.{nat_tests}
-use Rattle.mips_asm.specs.Number.{number, is_decimal, decimal_number, hexadecimal_number, is_name, in_name, begins_name}
+use Rattle.mips_asm.specs.Number.{number_value, is_decimal, decimal_number, hexadecimal_number, is_name, in_name, begins_name}
 use Rattle.mips_asm.specs.Operand.{adds, out, signed_operand, unsigned, register, numbered}
 use Rattle.mips_asm.specs.Listing.{signed_text}
 use Rattle.mips_asm.proofs.PrefixLengths.{both}
@@ -46,7 +46,7 @@ decimal_is_decimal n small =
 decimal_number_back : (n : ℕ) → n < 2 ^ 32 → decimal_number (decimal n) ≡ Some n
 decimal_number_back n small = rw (decimal_is_decimal n small) (ap Some (decimal_is_IsNumeral n (omega arith)).1)
 
--- a byte that is no digit stands at no place of digits
+-- a byte that is no digit stands at no position of digits
 no_sign : (c : ℕ) → is_ascii_digit c ≡ true → (c == 45) ≡ false
 no_sign c h = grind (arith, nat_tests)
 
@@ -69,7 +69,7 @@ and_no : (b : Bool) → (b && false) ≡ false
 and_no true = refl
 and_no false = refl
 
-number_digits : (ds : List ℕ) → list_all is_ascii_digit ds ≡ true → number ds ≡ option_map pos (decimal_number ds)
+number_digits : (ds : List ℕ) → list_all is_ascii_digit ds ≡ true → number_value ds ≡ option_map pos (decimal_number ds)
 number_digits ds all =
     let negative = option_map (λ n. neg_ℤ (pos n)) (decimal_number (drop 1 ds)) in
     let hexadecimal = option_map pos (hexadecimal_number (drop 2 ds)) in
@@ -78,16 +78,16 @@ number_digits ds all =
     ∙ ap (λ b. cond ((get_or ds 0 0 == 48) && b) hexadecimal plain) (no_mark_second ds all)
     ∙ ap (λ b. cond b hexadecimal plain) (and_no (get_or ds 0 0 == 48))
 
-pub number_decimal : (n : ℕ) → n < 2 ^ 32 → number (decimal n) ≡ Some (pos n)
+pub number_decimal : (n : ℕ) → n < 2 ^ 32 → number_value (decimal n) ≡ Some (pos n)
 number_decimal n small = number_digits (decimal n) (decimal_digits n small) ∙ ap (option_map pos) (decimal_number_back n small)
 
-number_negative : (k : ℕ) → k < 2 ^ 31 → number (45 ∷ decimal (suc k)) ≡ Some (negsuc k)
+number_negative : (k : ℕ) → k < 2 ^ 31 → number_value (45 ∷ decimal (suc k)) ≡ Some (negsuc k)
 number_negative k small = ap (option_map (λ n. neg_ℤ (pos n))) (decimal_number_back (suc k) (omega arith))
 
 -- a number below a limit, in its field
-pub unsigned_back : (limit place n : ℕ) → n < limit → n < 2 ^ 32 → option_map (unsigned limit place) (number (decimal n)) ≡ Some (adds (n * 2 ^ place))
-unsigned_back limit place n small fits =
-    ap (option_map (unsigned limit place)) (number_decimal n fits) ∙ ap (λ b. Some (cond b (adds (n * 2 ^ place)) (out (pos n)))) (lt-ltb n limit small)
+pub unsigned_back : (limit position n : ℕ) → n < limit → n < 2 ^ 32 → option_map (unsigned limit position) (number_value (decimal n)) ≡ Some (adds (n * 2 ^ position))
+unsigned_back limit position n small fits =
+    ap (option_map (unsigned limit position)) (number_decimal n fits) ∙ ap (λ b. Some (cond b (adds (n * 2 ^ position)) (out (pos n)))) (lt-ltb n limit small)
 
 -- a register's number
 digits_back : (limit n : ℕ) → n < limit → n < 2 ^ 32 → option_and_then (λ r. cond (nat_lt r limit) (Some r) None) (decimal_number (decimal n)) ≡ Some n
@@ -110,7 +110,7 @@ signed_low k small = ap (λ b. cond (b && true) (adds (65536 - suc k)) (out (neg
 -- what is said of the text of such a number
 pub record SignedBack (bits : ℕ) (text : List ℕ) : Type 0 where
   pub value : ℤ
-  pub reads : number text ≡ Some value
+  pub reads : number_value text ≡ Some value
   pub means : signed_operand value ≡ adds bits
   pub bytes : list_all (λ c. is_ascii_digit c || c == 45) text ≡ true
   pub no_name : is_name text ≡ false

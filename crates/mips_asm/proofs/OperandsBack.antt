@@ -13,11 +13,11 @@ use Rattle.mips_asm.specs.declared.form.Operand.TheVariants.{Register, Special, 
 use Rattle.mips_asm.specs.declared.form.Field.{Field}
 use Rattle.mips_asm.specs.declared.listing.Written.{Written}
 use Rattle.mips_asm.specs.declared.listing.Written.TheVariants as w
-use Rattle.mips_asm.specs.Number.{number}
+use Rattle.mips_asm.specs.Number.{number_value}
 use Rattle.mips_asm.specs.Text.{trim}
-use Rattle.mips_asm.specs.Operand.{adds, branch_label, jump_label, signed_operand, unsigned, and_register, register, with_base, len_before, inside, memory, first_bit, reading}
-use Rattle.mips_asm.specs.Line.{word, with_reading, with_operands, operands, with_word}
-use Rattle.mips_asm.specs.Listing.{operand_text, listed, signed_text}
+use Rattle.mips_asm.specs.Operand.{adds, branch_label, jump_label, signed_operand, unsigned, and_register, register, with_base, len_before, in_parentheses, memory, first_bit, reading}
+use Rattle.mips_asm.specs.Line.{word, with_reading, with_operands, operands, word_meaning}
+use Rattle.mips_asm.specs.Listing.{operand_text, listed_operands, signed_text}
 use Rattle.mips_asm.proofs.Tokens.{token, all_imply, all_append, front_len, digit_token, not_blank, trim_token, trim_blank}
 use Rattle.mips_asm.proofs.NumbersBack.{signed_back, unsigned_back, register_back, special_back, decimal_digits, decimal_some, decimal_no_name}
 use Rattle.mips_asm.proofs.PrefixLengths.{both}
@@ -56,7 +56,7 @@ written_token (w.Address bits base) small =
     refl
 
 -- a text in parentheses
-inside_back : (r : List ℕ) → inside (40 ∷ (r ++ (41 ∷ []))) ≡ Some r
+inside_back : (r : List ℕ) → in_parentheses (40 ∷ (r ++ (41 ∷ []))) ≡ Some r
 inside_back r =
     let text = 40 ∷ (r ++ (41 ∷ [])) in
     let len : length (r ++ (41 ∷ [])) ≡ length r + 1 = length-append r (41 ∷ []) in
@@ -78,17 +78,17 @@ address_is : (s d : List ℕ) → ((s ++ codes "(r") ++ d) ++ codes ")" ≡ s ++
 address_is s d = append_assoc (s ++ codes "(r") d (codes ")") ∙ append_assoc s (codes "(r") (d ++ codes ")")
 
 memory_of_parts : (s r : List ℕ) → list_all token s ≡ true → list_all (λ c. not (c == 40)) s ≡ true → list_all token r ≡ true
-    → memory (s ++ (40 ∷ (r ++ (41 ∷ [])))) ≡ with_base (number s) (register r)
+    → memory (s ++ (40 ∷ (r ++ (41 ∷ [])))) ≡ with_base (number_value s) (register r)
 memory_of_parts s r tokens plain rest =
     let tail = 40 ∷ (r ++ (41 ∷ [])) in
     let text = s ++ tail in
     let len : len_before 40 text ≡ length s = front_len (λ c. not (c == 40)) s tail plain refl in
-    ap (λ n. with_base (number (trim (take n text))) (option_and_then (λ t. register (trim t)) (inside (drop n text)))) len
-    ∙ ap (λ t. with_base (number (trim t)) (option_and_then (λ u. register (trim u)) (inside (drop (length s) text)))) (take-append_seam s tail)
-    ∙ ap (λ t. with_base (number t) (option_and_then (λ u. register (trim u)) (inside (drop (length s) text)))) (trim_token s tokens)
-    ∙ ap (λ t. with_base (number s) (option_and_then (λ u. register (trim u)) (inside t))) (drop-append_seam s tail)
-    ∙ ap (λ o. with_base (number s) (option_and_then (λ u. register (trim u)) o)) (inside_back r)
-    ∙ ap (λ t. with_base (number s) (register t)) (trim_token r rest)
+    ap (λ n. with_base (number_value (trim (take n text))) (option_and_then (λ t. register (trim t)) (in_parentheses (drop n text)))) len
+    ∙ ap (λ t. with_base (number_value (trim t)) (option_and_then (λ u. register (trim u)) (in_parentheses (drop (length s) text)))) (take-append_seam s tail)
+    ∙ ap (λ t. with_base (number_value t) (option_and_then (λ u. register (trim u)) (in_parentheses (drop (length s) text)))) (trim_token s tokens)
+    ∙ ap (λ t. with_base (number_value s) (option_and_then (λ u. register (trim u)) (in_parentheses t))) (drop-append_seam s tail)
+    ∙ ap (λ o. with_base (number_value s) (option_and_then (λ u. register (trim u)) o)) (inside_back r)
+    ∙ ap (λ t. with_base (number_value s) (register t)) (trim_token r rest)
 
 -- the operands read back
 pub register_reads : (field : Field) (n : ℕ) → n < 32 → reading (Register field) (operand_text (w.Register n)) ≡ Some (adds (n * 2 ^ first_bit field))
@@ -108,7 +108,7 @@ unsigned_reads n small = unsigned_back (2 ^ 16) 0 n small (omega arith)
 
 pub jump_reads : (n : ℕ) → n < 2 ^ 26 → reading Jump (operand_text (w.Number n)) ≡ Some (adds (n * 2 ^ 0))
 jump_reads n small =
-    ap (λ b. cond b (Some (jump_label (decimal n))) (option_map (unsigned (2 ^ 26) 0) (number (decimal n)))) (decimal_no_name n (omega arith))
+    ap (λ b. cond b (Some (jump_label (decimal n))) (option_map (unsigned (2 ^ 26) 0) (number_value (decimal n)))) (decimal_no_name n (omega arith))
     ∙ unsigned_back (2 ^ 26) 0 n small (omega arith)
 
 pub signed_reads : (bits : ℕ) → bits < 2 ^ 16 → reading Signed (operand_text (w.Signed bits)) ≡ Some (adds bits)
@@ -117,7 +117,7 @@ signed_reads bits small = let b = signed_back bits small in ap (option_map signe
 pub branch_reads : (bits : ℕ) → bits < 2 ^ 16 → reading Branch (operand_text (w.Signed bits)) ≡ Some (adds bits)
 branch_reads bits small =
     let b = signed_back bits small in
-    ap (λ n. cond n (Some (branch_label (signed_text bits))) (option_map signed_operand (number (signed_text bits)))) b.no_name
+    ap (λ n. cond n (Some (branch_label (signed_text bits))) (option_map signed_operand (number_value (signed_text bits)))) b.no_name
     ∙ ap (option_map signed_operand) b.reads ∙ ap Some b.means
 
 pub memory_reads : (bits base : ℕ) → bits < 2 ^ 16 → base < 32 → reading Memory (operand_text (w.Address bits base)) ≡ Some (adds (bits + base * 2 ^ 21))
@@ -179,7 +179,7 @@ AllSmall [] = Unit {0}
 AllSmall (o ∷ os) = Small o × AllSmall os
 
 pub listed_parts : (o : Written) (os : List Written) → Small o → AllSmall os
-    → slice_split (λ c. c == 44) (listed (codes " ") (o ∷ os)) ≡ map (λ o. 32 ∷ operand_text o) (o ∷ os)
+    → slice_split (λ c. c == 44) (listed_operands (codes " ") (o ∷ os)) ≡ map (λ o. 32 ∷ operand_text o) (o ∷ os)
 listed_parts o [] small more =
     ap (slice_split (λ c. c == 44)) (append_nil (32 ∷ operand_text o))
     ∙ slice_split_none (λ c. c == 44) (32 ∷ operand_text o) (all_no_comma o small)
@@ -188,7 +188,7 @@ listed_parts o [] small more =
     append_nil [] = refl
     append_nil (x ∷ xs) = ap (λ l. x ∷ l) (append_nil xs)
 listed_parts o (p ∷ os) small more =
-    slice_split_at (λ c. c == 44) (32 ∷ operand_text o) 44 (listed (codes " ") (p ∷ os)) (all_no_comma o small) refl
+    slice_split_at (λ c. c == 44) (32 ∷ operand_text o) 44 (listed_operands (codes " ") (p ∷ os)) (all_no_comma o small) refl
     ∙ ap (λ l. (32 ∷ operand_text o) ∷ l) (listed_parts p os more.0 more.1)
 
 -- a written operand isn't blank
@@ -209,13 +209,13 @@ written_not_blank (w.Address bits base) small =
     list_all-append is_ascii_whitespace ((signed_text bits ++ codes "(r") ++ decimal base) (codes ")")
     ∙ and_no (list_all is_ascii_whitespace ((signed_text bits ++ codes "(r") ++ decimal base))
 
-listed_not_blank : (o : Written) (os : List Written) → Small o → list_all is_ascii_whitespace (listed (codes " ") (o ∷ os)) ≡ false
+listed_not_blank : (o : Written) (os : List Written) → Small o → list_all is_ascii_whitespace (listed_operands (codes " ") (o ∷ os)) ≡ false
 listed_not_blank o os small =
-    list_all-append is_ascii_whitespace (operand_text o) (listed (codes ", ") os) ∙ ap (λ b. b && list_all is_ascii_whitespace (listed (codes ", ") os)) (written_not_blank o small)
+    list_all-append is_ascii_whitespace (operand_text o) (listed_operands (codes ", ") os) ∙ ap (λ b. b && list_all is_ascii_whitespace (listed_operands (codes ", ") os)) (written_not_blank o small)
 
-pub operands_listed : (o : Written) (os : List Written) → Small o → AllSmall os → operands (listed (codes " ") (o ∷ os)) ≡ map (λ o. 32 ∷ operand_text o) (o ∷ os)
+pub operands_listed : (o : Written) (os : List Written) → Small o → AllSmall os → operands (listed_operands (codes " ") (o ∷ os)) ≡ map (λ o. 32 ∷ operand_text o) (o ∷ os)
 operands_listed o os small more =
-    ap (λ b. cond b [] (slice_split (λ c. c == 44) (listed (codes " ") (o ∷ os)))) (listed_not_blank o os small) ∙ listed_parts o os small more
+    ap (λ b. cond b [] (slice_split (λ c. c == 44) (listed_operands (codes " ") (o ∷ os)))) (listed_not_blank o os small) ∙ listed_parts o os small more
 
 pub small_all : (ks : List Operand) (os : List Written) (n : ℕ) → Reads ks os n → AllSmall os
 small_all [] [] n reads = tt
@@ -225,7 +225,7 @@ small_all (k ∷ ks) (o ∷ os) n (a, b, small, reads, more, is) = (small, small
 
 -- an instruction with its operands
 pub instruction_back : (v : ℕ) (ks : List Operand) (o : Written) (os : List Written) (n : ℕ) → Reads ks (o ∷ os) n → v + n < 2 ^ 32
-    → with_word v ks (listed (codes " ") (o ∷ os)) ≡ word (v + n)
+    → word_meaning v ks (listed_operands (codes " ") (o ∷ os)) ≡ word (v + n)
 instruction_back v ks o os n reads fits =
     let small = small_all ks (o ∷ os) n reads in
     ap (with_operands (word v) ks) (operands_listed o os small.0 small.1) ∙ operands_back v ks (o ∷ os) n reads fits

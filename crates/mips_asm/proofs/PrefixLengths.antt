@@ -21,8 +21,8 @@ prefix_len_all p (x ∷ xs) all =
     let b = both (p x) (list_all p xs) all in
     omega (arith, prefix_len_all p xs b.1, ap (λ b. cond b (1 + prefix_len p xs) 0) b.0)
 
-pub register_fits : (r place : ℕ) → r < 32 → place ≤ 26 → r * 2 ^ place < 2 ^ 32
-register_fits r place small within =
-    let high : 2 ^ place ≤ 2 ^ 26 = pow-le-pow_right {n = 2} (lit< tt) within in
-    let prod : r * 2 ^ place ≤ r * 2 ^ 26 = mul-le-mul_left r high in
+pub register_fits : (r position : ℕ) → r < 32 → position ≤ 26 → r * 2 ^ position < 2 ^ 32
+register_fits r position small within =
+    let high : 2 ^ position ≤ 2 ^ 26 = pow-le-pow_right {n = 2} (lit< tt) within in
+    let prod : r * 2 ^ position ≤ r * 2 ^ 26 = mul-le-mul_left r high in
     omega (arith, prod)

@@ -16,8 +16,8 @@ use Rattle.mips_asm.specs.declared.listing.Written.TheVariants as w
 use Rattle.mips_asm.specs.Number.{in_name}
 use Rattle.mips_asm.specs.Form.{forms, form_of}
 use Rattle.mips_asm.specs.Operand.{first_bit}
-use Rattle.mips_asm.specs.Line.{word, named, instruction, with_word}
-use Rattle.mips_asm.specs.Listing.{listed, operands}
+use Rattle.mips_asm.specs.Line.{word, named, instruction, word_meaning}
+use Rattle.mips_asm.specs.Listing.{listed_operands, operands}
 use Rattle.mips_asm.proofs.Tokens.{token}
 use Rattle.mips_asm.proofs.OperandsBack.{Reads, AllSmall, instruction_back, register_reads, special_reads, amount_reads, code_reads, signed_reads, unsigned_reads, branch_reads, jump_reads, memory_reads}
 
@@ -53,94 +53,94 @@ last_memory bits base small below = (bits + base * 2 ^ 21, 0, (small, below), me
 
 -- an instruction with a word that is another sum of the same parts
 to_word : (v : ℕ) (ks : List Operand) (o : Written) (os : List Written) (n total : ℕ) → Reads ks (o ∷ os) n → v + n ≡ total → total < 2 ^ 32
-    → with_word v ks (listed (codes " ") (o ∷ os)) ≡ word total
+    → word_meaning v ks (listed_operands (codes " ") (o ∷ os)) ≡ word total
 to_word v ks o os n total reads is fits = instruction_back v ks o os n reads (omega arith) ∙ ap word is
 
-syscall_back : (code : ℕ) → code < 2 ^ 20 → with_word 12 (Code ∷ []) (listed (codes " ") (operands (Syscall code))) ≡ word (encoding (Syscall code))
+syscall_back : (code : ℕ) → code < 2 ^ 20 → word_meaning 12 (Code ∷ []) (listed_operands (codes " ") (operands (Syscall code))) ≡ word (encoding (Syscall code))
 syscall_back code small =
-    elim (cases_eq code 0) as (λ _. with_word 12 (Code ∷ []) (listed (codes " ") (operands (Syscall code))) ≡ word (encoding (Syscall code))) [
+    elim (cases_eq code 0) as (λ _. word_meaning 12 (Code ∷ []) (listed_operands (codes " ") (operands (Syscall code))) ≡ word (encoding (Syscall code))) [
       | inl none ↦
-          ap (λ c. with_word 12 (Code ∷ []) (listed (codes " ") (operands (Syscall c)))) none ∙ sym (ap (λ c. word (encoding (Syscall c))) none)
+          ap (λ c. word_meaning 12 (Code ∷ []) (listed_operands (codes " ") (operands (Syscall c)))) none ∙ sym (ap (λ c. word (encoding (Syscall c))) none)
       | inr some ↦
-          ap (λ b. with_word 12 (Code ∷ []) (listed (codes " ") (cond b [] (w.Number code ∷ [])))) (ne_eqb code 0 some)
+          ap (λ b. word_meaning 12 (Code ∷ []) (listed_operands (codes " ") (cond b [] (w.Number code ∷ [])))) (ne_eqb code 0 some)
           ∙ to_word 12 (Code ∷ []) (w.Number code) [] (code * 2 ^ 6 + 0) (encoding (Syscall code)) (last_code code small) (omega arith) (omega arith)
     ]
 
 -- the shapes of instructions
 three_registers : (v : ℕ) (f g k : Field) (a b c total : ℕ) → (a < 32) × (b < 32) × (c < 32) → v + (a * 2 ^ first_bit f + (b * 2 ^ first_bit g + (c * 2 ^ first_bit k + 0))) ≡ total → total < 2 ^ 32
-    → with_word v (Register f ∷ (Register g ∷ (Register k ∷ []))) (listed (codes " ") (w.Register a ∷ (w.Register b ∷ (w.Register c ∷ [])))) ≡ word total
+    → word_meaning v (Register f ∷ (Register g ∷ (Register k ∷ []))) (listed_operands (codes " ") (w.Register a ∷ (w.Register b ∷ (w.Register c ∷ [])))) ≡ word total
 three_registers v f g k a b c total h is fits =
     to_word v (Register f ∷ (Register g ∷ (Register k ∷ []))) (w.Register a) (w.Register b ∷ (w.Register c ∷ [])) (a * 2 ^ first_bit f + (b * 2 ^ first_bit g + (c * 2 ^ first_bit k + 0))) total
     (with_register f a (Register g ∷ (Register k ∷ [])) (w.Register b ∷ (w.Register c ∷ [])) (b * 2 ^ first_bit g + (c * 2 ^ first_bit k + 0)) h.0 (with_register g b (Register k ∷ []) (w.Register c ∷ []) (c * 2 ^ first_bit k + 0) h.1 (with_register k c [] [] 0 h.2 refl))) is fits
 
 two_registers : (v : ℕ) (f g : Field) (a b total : ℕ) → (a < 32) × (b < 32) → v + (a * 2 ^ first_bit f + (b * 2 ^ first_bit g + 0)) ≡ total → total < 2 ^ 32
-    → with_word v (Register f ∷ (Register g ∷ [])) (listed (codes " ") (w.Register a ∷ (w.Register b ∷ []))) ≡ word total
+    → word_meaning v (Register f ∷ (Register g ∷ [])) (listed_operands (codes " ") (w.Register a ∷ (w.Register b ∷ []))) ≡ word total
 two_registers v f g a b total h is fits =
     to_word v (Register f ∷ (Register g ∷ [])) (w.Register a) (w.Register b ∷ []) (a * 2 ^ first_bit f + (b * 2 ^ first_bit g + 0)) total
     (with_register f a (Register g ∷ []) (w.Register b ∷ []) (b * 2 ^ first_bit g + 0) h.0 (with_register g b [] [] 0 h.1 refl)) is fits
 
 one_register : (v : ℕ) (f : Field) (a total : ℕ) → a < 32 → v + (a * 2 ^ first_bit f + 0) ≡ total → total < 2 ^ 32
-    → with_word v (Register f ∷ []) (listed (codes " ") (w.Register a ∷ [])) ≡ word total
+    → word_meaning v (Register f ∷ []) (listed_operands (codes " ") (w.Register a ∷ [])) ≡ word total
 one_register v f a total h is fits =
     to_word v (Register f ∷ []) (w.Register a) [] (a * 2 ^ first_bit f + 0) total
     (with_register f a [] [] 0 h refl) is fits
 
 shift : (v : ℕ) (rd rt sa total : ℕ) → (rd < 32) × (rt < 32) × (sa < 32) → v + (rd * 2 ^ first_bit Rd + (rt * 2 ^ first_bit Rt + (sa * 2 ^ 6 + 0))) ≡ total → total < 2 ^ 32
-    → with_word v (Register Rd ∷ (Register Rt ∷ (Amount ∷ []))) (listed (codes " ") (w.Register rd ∷ (w.Register rt ∷ (w.Number sa ∷ [])))) ≡ word total
+    → word_meaning v (Register Rd ∷ (Register Rt ∷ (Amount ∷ []))) (listed_operands (codes " ") (w.Register rd ∷ (w.Register rt ∷ (w.Number sa ∷ [])))) ≡ word total
 shift v rd rt sa total h is fits =
     to_word v (Register Rd ∷ (Register Rt ∷ (Amount ∷ []))) (w.Register rd) (w.Register rt ∷ (w.Number sa ∷ [])) (rd * 2 ^ first_bit Rd + (rt * 2 ^ first_bit Rt + (sa * 2 ^ 6 + 0))) total
     (with_register Rd rd (Register Rt ∷ (Amount ∷ [])) (w.Register rt ∷ (w.Number sa ∷ [])) (rt * 2 ^ first_bit Rt + (sa * 2 ^ 6 + 0)) h.0 (with_register Rt rt (Amount ∷ []) (w.Number sa ∷ []) (sa * 2 ^ 6 + 0) h.1 (last_amount sa h.2))) is fits
 
 branch_on_one : (v : ℕ) (rs imm total : ℕ) → (rs < 32) × (imm < 2 ^ 16) → v + (rs * 2 ^ first_bit Rs + (imm + 0)) ≡ total → total < 2 ^ 32
-    → with_word v (Register Rs ∷ (Branch ∷ [])) (listed (codes " ") (w.Register rs ∷ (w.Signed imm ∷ []))) ≡ word total
+    → word_meaning v (Register Rs ∷ (Branch ∷ [])) (listed_operands (codes " ") (w.Register rs ∷ (w.Signed imm ∷ []))) ≡ word total
 branch_on_one v rs imm total h is fits =
     to_word v (Register Rs ∷ (Branch ∷ [])) (w.Register rs) (w.Signed imm ∷ []) (rs * 2 ^ first_bit Rs + (imm + 0)) total
     (with_register Rs rs (Branch ∷ []) (w.Signed imm ∷ []) (imm + 0) h.0 (last_branch imm h.1)) is fits
 
 branch_on_two : (v : ℕ) (rs rt imm total : ℕ) → (rs < 32) × (rt < 32) × (imm < 2 ^ 16) → v + (rs * 2 ^ first_bit Rs + (rt * 2 ^ first_bit Rt + (imm + 0))) ≡ total → total < 2 ^ 32
-    → with_word v (Register Rs ∷ (Register Rt ∷ (Branch ∷ []))) (listed (codes " ") (w.Register rs ∷ (w.Register rt ∷ (w.Signed imm ∷ [])))) ≡ word total
+    → word_meaning v (Register Rs ∷ (Register Rt ∷ (Branch ∷ []))) (listed_operands (codes " ") (w.Register rs ∷ (w.Register rt ∷ (w.Signed imm ∷ [])))) ≡ word total
 branch_on_two v rs rt imm total h is fits =
     to_word v (Register Rs ∷ (Register Rt ∷ (Branch ∷ []))) (w.Register rs) (w.Register rt ∷ (w.Signed imm ∷ [])) (rs * 2 ^ first_bit Rs + (rt * 2 ^ first_bit Rt + (imm + 0))) total
     (with_register Rs rs (Register Rt ∷ (Branch ∷ [])) (w.Register rt ∷ (w.Signed imm ∷ [])) (rt * 2 ^ first_bit Rt + (imm + 0)) h.0 (with_register Rt rt (Branch ∷ []) (w.Signed imm ∷ []) (imm + 0) h.1 (last_branch imm h.2))) is fits
 
 jump : (v : ℕ) (index total : ℕ) → index < 2 ^ 26 → v + (index * 2 ^ 0 + 0) ≡ total → total < 2 ^ 32
-    → with_word v (Jump ∷ []) (listed (codes " ") (w.Number index ∷ [])) ≡ word total
+    → word_meaning v (Jump ∷ []) (listed_operands (codes " ") (w.Number index ∷ [])) ≡ word total
 jump v index total h is fits =
     to_word v (Jump ∷ []) (w.Number index) [] (index * 2 ^ 0 + 0) total
     (last_jump index h) is fits
 
 signed_immediate : (v : ℕ) (rt rs imm total : ℕ) → (rt < 32) × (rs < 32) × (imm < 2 ^ 16) → v + (rt * 2 ^ first_bit Rt + (rs * 2 ^ first_bit Rs + (imm + 0))) ≡ total → total < 2 ^ 32
-    → with_word v (Register Rt ∷ (Register Rs ∷ (Signed ∷ []))) (listed (codes " ") (w.Register rt ∷ (w.Register rs ∷ (w.Signed imm ∷ [])))) ≡ word total
+    → word_meaning v (Register Rt ∷ (Register Rs ∷ (Signed ∷ []))) (listed_operands (codes " ") (w.Register rt ∷ (w.Register rs ∷ (w.Signed imm ∷ [])))) ≡ word total
 signed_immediate v rt rs imm total h is fits =
     to_word v (Register Rt ∷ (Register Rs ∷ (Signed ∷ []))) (w.Register rt) (w.Register rs ∷ (w.Signed imm ∷ [])) (rt * 2 ^ first_bit Rt + (rs * 2 ^ first_bit Rs + (imm + 0))) total
     (with_register Rt rt (Register Rs ∷ (Signed ∷ [])) (w.Register rs ∷ (w.Signed imm ∷ [])) (rs * 2 ^ first_bit Rs + (imm + 0)) h.0 (with_register Rs rs (Signed ∷ []) (w.Signed imm ∷ []) (imm + 0) h.1 (last_signed imm h.2))) is fits
 
 unsigned_immediate : (v : ℕ) (rt rs imm total : ℕ) → (rt < 32) × (rs < 32) × (imm < 2 ^ 16) → v + (rt * 2 ^ first_bit Rt + (rs * 2 ^ first_bit Rs + (imm * 2 ^ 0 + 0))) ≡ total → total < 2 ^ 32
-    → with_word v (Register Rt ∷ (Register Rs ∷ (Unsigned ∷ []))) (listed (codes " ") (w.Register rt ∷ (w.Register rs ∷ (w.Number imm ∷ [])))) ≡ word total
+    → word_meaning v (Register Rt ∷ (Register Rs ∷ (Unsigned ∷ []))) (listed_operands (codes " ") (w.Register rt ∷ (w.Register rs ∷ (w.Number imm ∷ [])))) ≡ word total
 unsigned_immediate v rt rs imm total h is fits =
     to_word v (Register Rt ∷ (Register Rs ∷ (Unsigned ∷ []))) (w.Register rt) (w.Register rs ∷ (w.Number imm ∷ [])) (rt * 2 ^ first_bit Rt + (rs * 2 ^ first_bit Rs + (imm * 2 ^ 0 + 0))) total
     (with_register Rt rt (Register Rs ∷ (Unsigned ∷ [])) (w.Register rs ∷ (w.Number imm ∷ [])) (rs * 2 ^ first_bit Rs + (imm * 2 ^ 0 + 0)) h.0 (with_register Rs rs (Unsigned ∷ []) (w.Number imm ∷ []) (imm * 2 ^ 0 + 0) h.1 (last_unsigned imm h.2))) is fits
 
 upper_immediate : (v : ℕ) (rt imm total : ℕ) → (rt < 32) × (imm < 2 ^ 16) → v + (rt * 2 ^ first_bit Rt + (imm * 2 ^ 0 + 0)) ≡ total → total < 2 ^ 32
-    → with_word v (Register Rt ∷ (Unsigned ∷ [])) (listed (codes " ") (w.Register rt ∷ (w.Number imm ∷ []))) ≡ word total
+    → word_meaning v (Register Rt ∷ (Unsigned ∷ [])) (listed_operands (codes " ") (w.Register rt ∷ (w.Number imm ∷ []))) ≡ word total
 upper_immediate v rt imm total h is fits =
     to_word v (Register Rt ∷ (Unsigned ∷ [])) (w.Register rt) (w.Number imm ∷ []) (rt * 2 ^ first_bit Rt + (imm * 2 ^ 0 + 0)) total
     (with_register Rt rt (Unsigned ∷ []) (w.Number imm ∷ []) (imm * 2 ^ 0 + 0) h.0 (last_unsigned imm h.1)) is fits
 
 special_register : (v : ℕ) (rt special total : ℕ) → (rt < 32) × (special ≤ 8) → v + (rt * 2 ^ first_bit Rt + (special * 2 ^ 11 + 0)) ≡ total → total < 2 ^ 32
-    → with_word v (Register Rt ∷ (Special ∷ [])) (listed (codes " ") (w.Register rt ∷ (w.Special special ∷ []))) ≡ word total
+    → word_meaning v (Register Rt ∷ (Special ∷ [])) (listed_operands (codes " ") (w.Register rt ∷ (w.Special special ∷ []))) ≡ word total
 special_register v rt special total h is fits =
     to_word v (Register Rt ∷ (Special ∷ [])) (w.Register rt) (w.Special special ∷ []) (rt * 2 ^ first_bit Rt + (special * 2 ^ 11 + 0)) total
     (with_register Rt rt (Special ∷ []) (w.Special special ∷ []) (special * 2 ^ 11 + 0) h.0 (last_special special h.1)) is fits
 
 memory_word : (v : ℕ) (rt rs imm total : ℕ) → (rt < 32) × (rs < 32) × (imm < 2 ^ 16) → v + (rt * 2 ^ first_bit Rt + (imm + rs * 2 ^ 21 + 0)) ≡ total → total < 2 ^ 32
-    → with_word v (Register Rt ∷ (Memory ∷ [])) (listed (codes " ") (w.Register rt ∷ (w.Address imm rs ∷ []))) ≡ word total
+    → word_meaning v (Register Rt ∷ (Memory ∷ [])) (listed_operands (codes " ") (w.Register rt ∷ (w.Address imm rs ∷ []))) ≡ word total
 memory_word v rt rs imm total h is fits =
     to_word v (Register Rt ∷ (Memory ∷ [])) (w.Register rt) (w.Address imm rs ∷ []) (rt * 2 ^ first_bit Rt + (imm + rs * 2 ^ 21 + 0)) total
     (with_register Rt rt (Memory ∷ []) (w.Address imm rs ∷ []) (imm + rs * 2 ^ 21 + 0) h.0 (last_memory imm rs h.2 h.1)) is fits
 
 -- each row, by its shape
-pub row_back : (i : Inst) → InRange i → instruction (form_of (mnemonic_of i)) (listed (codes " ") (operands i)) ≡ word (encoding i)
+pub row_back : (i : Inst) → InRange i → instruction (form_of (mnemonic_of i)) (listed_operands (codes " ") (operands i)) ≡ word (encoding i)
 unfolding form_of forms
 row_back (Sll rd rt sa) h = shift 0x00000000 rd rt sa (encoding (Sll rd rt sa)) h (omega arith) (omega arith)
 row_back (Srl rd rt sa) h = shift 0x00000002 rd rt sa (encoding (Srl rd rt sa)) h (omega arith) (omega arith)

@@ -9,11 +9,11 @@ use Rattle.mips_table.specs.Decoding.{decoding}
 use Rattle.mips_asm.specs.declared.fault.AsmFault.TheVariants.{TooLong}
 use Rattle.mips_asm.specs.Text.{asm_lines, is_good_byte}
 use Rattle.mips_asm.specs.Line.{LineMeaning, nothing, word, line_meaning, statement, width}
-use Rattle.mips_asm.specs.Assembled.{labels, has, label_place, labels_resolved, meaning_fault, meaning_words, twice_fault, fault_or, first_fault, words_of_lines, assembled}
-use Rattle.mips_asm.specs.Passes.{repeats_in, fault_at, fault_from, words_from}
+use Rattle.mips_asm.specs.Assembled.{labels, has, label_position, labels_resolved, meaning_fault, meaning_words, twice_fault, fault_or, first_fault, words_of_lines, assembled}
+use Rattle.mips_asm.specs.Passes.{repeats_in, line_fault_at, fault_from, line_words_from}
 use Rattle.mips_asm.specs.Listing.{line_for, line_of, listing}
 use Rattle.mips_asm.specs.Back.{ReadsBack}
-use Rattle.mips_asm.proofs.Counting.{first_fault_is, words_are}
+use Rattle.mips_asm.proofs.PassesCount.{first_fault_is, words_are}
 
 -- the text of one word
 abbrev pub text_of : ℕ → List ℕ
@@ -42,37 +42,37 @@ unfolding line_meaning statement
 empty_means = refl
 
 -- a line that means a word has no fault
-no_fault_at : (place : List ℕ → Option ℕ) (seen : List ℕ → Bool) (start number at : ℕ) (line : List ℕ) (m : LineMeaning) → line_meaning line ≡ m → labels line ≡ []
-    → meaning_fault (start + prefix_len is_good_byte line) number (labels_resolved place at m) ≡ None → fault_at place seen start number at line ≡ None
-no_fault_at place seen start number at line m means unlabelled none =
-    ap (λ n. option_or (meaning_fault (start + prefix_len is_good_byte line) number (labels_resolved place at n)) (twice_fault number (repeats_in seen (labels line)))) means
-    ∙ ap (λ ls. option_or (meaning_fault (start + prefix_len is_good_byte line) number (labels_resolved place at m)) (twice_fault number (repeats_in seen ls))) unlabelled
+no_fault_at : (position : List ℕ → Option ℕ) (seen : List ℕ → Bool) (start number at : ℕ) (line : List ℕ) (m : LineMeaning) → line_meaning line ≡ m → labels line ≡ []
+    → meaning_fault (start + prefix_len is_good_byte line) number (labels_resolved position at m) ≡ None → line_fault_at position seen start number at line ≡ None
+no_fault_at position seen start number at line m means unlabelled none =
+    ap (λ n. option_or (meaning_fault (start + prefix_len is_good_byte line) number (labels_resolved position at n)) (twice_fault number (repeats_in seen (labels line)))) means
+    ∙ ap (λ ls. option_or (meaning_fault (start + prefix_len is_good_byte line) number (labels_resolved position at m)) (twice_fault number (repeats_in seen ls))) unlabelled
     ∙ ap (λ o. option_or o None) none
 
 few : (n : ℕ) → n ≤ 65536 → nat_lt 65536 n ≡ false
 few n small = grind (arith, nat_tests)
 
-no_fault : (place : List ℕ → Option ℕ) (seen : List ℕ → Bool) (start number at : ℕ) (vs : List ℕ) → AllBack vs → at + length vs ≤ 65536
-    → fault_from place seen start number at (map text_of vs ++ ([] ∷ [])) ≡ None
-no_fault place seen start number at [] back small =
-    ap (λ o. option_or o (fault_from place (λ q. seen q || has (labels []) q) (start + 1) (number + 1) (at + width (line_meaning [])) []))
-    (no_fault_at place seen start number at [] nothing empty_means refl refl)
+no_fault : (position : List ℕ → Option ℕ) (seen : List ℕ → Bool) (start number at : ℕ) (vs : List ℕ) → AllBack vs → at + length vs ≤ 65536
+    → fault_from position seen start number at (map text_of vs ++ ([] ∷ [])) ≡ None
+no_fault position seen start number at [] back small =
+    ap (λ o. option_or o (fault_from position (λ q. seen q || has (labels []) q) (start + 1) (number + 1) (at + width (line_meaning [])) []))
+    (no_fault_at position seen start number at [] nothing empty_means refl refl)
     ∙ ap (λ m. cond (nat_lt 65536 (at + width m)) (Some TooLong) None) empty_means ∙ ap (λ b. cond b (Some TooLong) None) (few (at + 0) (omega arith))
-no_fault place seen start number at (v ∷ vs) back small =
+no_fault position seen start number at (v ∷ vs) back small =
     let line = text_of v in
     let rest = map text_of vs ++ ([] ∷ []) in
     let after = λ (q : List ℕ). seen q || has (labels line) q in
-    ap (λ o. option_or o (fault_from place after (start + (length line + 1)) (number + 1) (at + width (line_meaning line)) rest))
-    (no_fault_at place seen start number at line (word v) back.0.means back.0.unlabelled refl)
-    ∙ ap (λ m. fault_from place after (start + (length line + 1)) (number + 1) (at + width m) rest) back.0.means
-    ∙ no_fault place after (start + (length line + 1)) (number + 1) (at + 1) vs back.1 (omega arith)
+    ap (λ o. option_or o (fault_from position after (start + (length line + 1)) (number + 1) (at + width (line_meaning line)) rest))
+    (no_fault_at position seen start number at line (word v) back.0.means back.0.unlabelled refl)
+    ∙ ap (λ m. fault_from position after (start + (length line + 1)) (number + 1) (at + width m) rest) back.0.means
+    ∙ no_fault position after (start + (length line + 1)) (number + 1) (at + 1) vs back.1 (omega arith)
 
-words_back : (place : List ℕ → Option ℕ) (at : ℕ) (vs : List ℕ) → AllBack vs → words_from place at (map text_of vs ++ ([] ∷ [])) ≡ vs
-words_back place at [] back = ap (λ m. meaning_words (labels_resolved place at m) ++ []) empty_means
-words_back place at (v ∷ vs) back =
+words_back : (position : List ℕ → Option ℕ) (at : ℕ) (vs : List ℕ) → AllBack vs → line_words_from position at (map text_of vs ++ ([] ∷ [])) ≡ vs
+words_back position at [] back = ap (λ m. meaning_words (labels_resolved position at m) ++ []) empty_means
+words_back position at (v ∷ vs) back =
     let rest = map text_of vs ++ ([] ∷ []) in
-    ap (λ m. meaning_words (labels_resolved place at m) ++ words_from place (at + width (line_meaning (text_of v))) rest) back.0.means
-    ∙ ap (λ l. v ∷ l) (words_back place (at + width (line_meaning (text_of v))) vs back.1)
+    ap (λ m. meaning_words (labels_resolved position at m) ++ line_words_from position (at + width (line_meaning (text_of v))) rest) back.0.means
+    ∙ ap (λ l. v ∷ l) (words_back position (at + width (line_meaning (text_of v))) vs back.1)
 
 pub assembled_back : (vs : List ℕ) → All ReadsBack vs → length vs ≤ 65536 → assembled (listing vs) ≡ Ok vs
 unfolding assembled
@@ -80,8 +80,8 @@ assembled_back vs all small =
     let back = all_back vs all in
     let lines = asm_lines (listing vs) in
     let are = lines_are vs back in
-    let place = label_place lines in
+    let position = label_position lines in
     let none : first_fault lines [] lines ≡ None
-    = first_fault_is lines [] lines ∙ ap (fault_from place (has []) 0 1 0) are ∙ no_fault place (has []) 0 1 0 vs back (omega arith) in
-    let all_words : words_of_lines lines [] lines ≡ vs = words_are lines [] lines ∙ ap (words_from place 0) are ∙ words_back place 0 vs back in
+    = first_fault_is lines [] lines ∙ ap (fault_from position (has []) 0 1 0) are ∙ no_fault position (has []) 0 1 0 vs back (omega arith) in
+    let all_words : words_of_lines lines [] lines ≡ vs = words_are lines [] lines ∙ ap (line_words_from position 0) are ∙ words_back position 0 vs back in
     ap (λ o. fault_or o (words_of_lines lines [] lines)) none ∙ ap Ok all_words

@@ -13,8 +13,8 @@ abbrev pub labels : List ℕ → List (List ℕ)
 labels line = labels_in (colon_parts (content (take (prefix_len is_good_byte line) line)))
 
 -- how many words these lines count
-abbrev pub words_in : List (List ℕ) → ℕ
-words_in lines = sum_by (λ line. width (line_meaning line)) lines
+abbrev pub word_count : List (List ℕ) → ℕ
+word_count lines = sum_by (λ line. width (line_meaning line)) lines
 
 -- how many bytes these lines take, each with its LF
 abbrev pub bytes_in : List (List ℕ) → ℕ
@@ -24,14 +24,14 @@ bytes_in lines = sum_by (λ line. length line + 1) lines
 abbrev pub has : List (List ℕ) → List ℕ → Bool
 has names name = list_any (λ n. bytes_eq n name) names
 
--- the place of a label in words, where the first of these lines has the place `at`: that of the first line that sets it
-abbrev pub place_from : ℕ → List (List ℕ) → List ℕ → Option ℕ
-place_from at [] name = None
-place_from at (line ∷ lines) name = if has (labels line) name then Some at else place_from (at + width (line_meaning line)) lines name
+-- the position of a label in words, where the first of these lines has the position `at`: that of the first line that sets it
+abbrev pub position_from : ℕ → List (List ℕ) → List ℕ → Option ℕ
+position_from at [] name = None
+position_from at (line ∷ lines) name = if has (labels line) name then Some at else position_from (at + width (line_meaning line)) lines name
 
--- the place of a label of a text with these lines
-abbrev pub label_place : List (List ℕ) → List ℕ → Option ℕ
-label_place lines name = place_from 0 lines name
+-- the position of a label of a text with these lines
+abbrev pub label_position : List (List ℕ) → List ℕ → Option ℕ
+label_position lines name = position_from 0 lines name
 
 -- whether one of the names was there before, among these or earlier in the list
 abbrev pub repeats : List (List ℕ) → List (List ℕ) → Bool
@@ -42,23 +42,23 @@ repeats before (n ∷ ns) = has before n || repeats (before ++ (n ∷ [])) ns
 abbrev pub branch_offset : ℕ → ℕ → ℤ
 branch_offset at to = pos to +ℤ neg_ℤ (pos (at + 1))
 
--- a branch at a place, whose label has this place
+-- a branch at a position, whose label has this position
 abbrev pub branch_to : ℕ → ℕ → Option ℕ → LineMeaning
 branch_to w at None = unknown_label
 branch_to w at (Some to) = with_reading (word w) (Some (signed_operand (branch_offset at to)))
 
--- a jump to a label that has this place
+-- a jump to a label that has this position
 abbrev pub jump_to : ℕ → Option ℕ → LineMeaning
 jump_to w None = unknown_label
 jump_to w (Some to) = with_reading (word w) (Some (adds (to % 2 ^ 26)))
 
--- what a line at a place gives where the places of the labels are known
+-- what a line at a position gives where the positions of the labels are known
 abbrev pub labels_resolved : (List ℕ → Option ℕ) → ℕ → LineMeaning → LineMeaning
-labels_resolved place at (branch w l) = branch_to w at (place l)
-labels_resolved place at (jump w l) = jump_to w (place l)
-labels_resolved place at m = m
+labels_resolved position at (branch w l) = branch_to w at (position l)
+labels_resolved position at (jump w l) = jump_to w (position l)
+labels_resolved position at m = m
 
--- the fault in what a line gives, for the line with this number, whose first bad byte stands at this place of the text
+-- the fault in what a line gives, for the line with this number, whose first bad byte stands at this position of the text
 abbrev pub meaning_fault : ℕ → ℕ → LineMeaning → Option AsmFault
 meaning_fault bad number bad_byte = Some (BadByte bad)
 meaning_fault bad number unknown = Some (UnknownMnemonic number)
@@ -80,19 +80,19 @@ twice_fault number twice = if twice then Some (LabelTwice number) else None
 -- the fault of a line after the lines `before`, in a text with these lines
 abbrev pub line_fault : List (List ℕ) → List (List ℕ) → List ℕ → Option AsmFault
 line_fault lines before line =
-    option_or (meaning_fault (bytes_in before + prefix_len is_good_byte line) (length before + 1) (labels_resolved (label_place lines) (words_in before) (line_meaning line)))
+    option_or (meaning_fault (bytes_in before + prefix_len is_good_byte line) (length before + 1) (labels_resolved (label_position lines) (word_count before) (line_meaning line)))
     (twice_fault (length before + 1) (repeats (flat_map labels before) (labels line)))
 
 -- the first fault of the lines `rest` after the lines `before`; after the last line, that there are too many words
 abbrev pub first_fault : List (List ℕ) → List (List ℕ) → List (List ℕ) → Option AsmFault
-first_fault lines before [] = if nat_lt 65536 (words_in before) then Some TooLong else None
+first_fault lines before [] = if nat_lt 65536 (word_count before) then Some TooLong else None
 first_fault lines before (line ∷ rest) = option_or (line_fault lines before line) (first_fault lines (before ++ (line ∷ [])) rest)
 
 -- the words of the lines `rest` after the lines `before`
 abbrev pub words_of_lines : List (List ℕ) → List (List ℕ) → List (List ℕ) → List ℕ
 words_of_lines lines before [] = []
 words_of_lines lines before (line ∷ rest) =
-    meaning_words (labels_resolved (label_place lines) (words_in before) (line_meaning line)) ++ words_of_lines lines (before ++ (line ∷ [])) rest
+    meaning_words (labels_resolved (label_position lines) (word_count before) (line_meaning line)) ++ words_of_lines lines (before ++ (line ∷ [])) rest
 
 -- the first fault, or else the words
 abbrev pub fault_or : Option AsmFault → List ℕ → Result (List ℕ) AsmFault

@@ -15,9 +15,9 @@ asm_fault_number TooLong = 7
 asm_fault_number Memory = 8
 
 -- the byte of the text that a fault names
-abbrev pub asm_fault_place : AsmFault → Option ℕ
-asm_fault_place (BadByte at) = Some at
-asm_fault_place other = None
+abbrev pub asm_fault_position : AsmFault → Option ℕ
+asm_fault_position (BadByte at) = Some at
+asm_fault_position other = None
 
 -- the line of the text that a fault names
 abbrev pub asm_fault_line : AsmFault → Option ℕ

@@ -8,12 +8,12 @@ use Rattle.std.specs.List.{list_all, slice_split, prefix_len}
 use Rattle.mips_table.specs.Encoding.{encoding}
 use Rattle.mips_asm.specs.declared.form.Operand.{Operand}
 use Rattle.mips_asm.specs.declared.form.Operand.TheVariants.{Code}
-use Rattle.mips_asm.specs.Number.{number, in_name}
+use Rattle.mips_asm.specs.Number.{number_value, in_name}
 use Rattle.mips_asm.specs.Text.{trim, trim_start, content, colon_parts, after_labels, is_good_byte}
 use Rattle.mips_asm.specs.Form.{Form, form_of}
 use Rattle.mips_asm.specs.Operand.{OperandReading, adds, out, branch_label, jump_label, reading}
 
--- what a line gives, before the places of the labels are known
+-- what a line gives, before the positions of the labels are known
 pub data LineMeaning : Type 0 where
   -- a byte that no text may have: no word
   bad_byte : LineMeaning
@@ -72,19 +72,19 @@ abbrev pub mnemonic_len : List ℕ → ℕ
 mnemonic_len s = if slice_index s 0 == 46 then 1 + prefix_len in_name (drop 1 s) else prefix_len in_name s
 
 -- an instruction that has this word where its operands are 0, and these operands
-abbrev pub with_word : ℕ → List Operand → List ℕ → LineMeaning
-with_word w ks rest = with_operands (word w) ks (operands rest)
+abbrev pub word_meaning : ℕ → List Operand → List ℕ → LineMeaning
+word_meaning w ks rest = with_operands (word w) ks (operands rest)
 
 -- an instruction of a form
 abbrev pub instruction : Option Form → List ℕ → LineMeaning
 instruction None rest = unknown
-instruction (Some f) rest = with_word (encoding f.0) f.1 rest
+instruction (Some f) rest = word_meaning (encoding f.0) f.1 rest
 
 -- a mnemonic or directive, and what stands after it
 abbrev pub named : List ℕ → List ℕ → LineMeaning
 named mnemonic rest =
-    if bytes_eq mnemonic (codes ".word") then word_directive (number (trim rest))
-    else if bytes_eq mnemonic (codes ".zero") then zero_directive (number (trim rest))
+    if bytes_eq mnemonic (codes ".word") then word_directive (number_value (trim rest))
+    else if bytes_eq mnemonic (codes ".zero") then zero_directive (number_value (trim rest))
     else instruction (form_of mnemonic) rest
 
 -- a statement with no blank before it

@@ -23,9 +23,9 @@ operand_text (Signed bits) = signed_text bits
 operand_text (Address bits base) = ((signed_text bits ++ codes "(r") ++ decimal base) ++ codes ")"
 
 -- the operands, with this before the first, and a comma and a blank before each other
-abbrev pub listed : List ℕ → List Written → List ℕ
-listed before [] = []
-listed before (o ∷ os) = (before ++ operand_text o) ++ listed (codes ", ") os
+abbrev pub listed_operands : List ℕ → List Written → List ℕ
+listed_operands before [] = []
+listed_operands before (o ∷ os) = (before ++ operand_text o) ++ listed_operands (codes ", ") os
 
 -- what stands before the operand at an index
 abbrev pub separator_at : ℕ → List ℕ
@@ -84,7 +84,7 @@ operands (Mtlo rs) = Register rs ∷ []
 
 -- the text of a word: the instruction with its operands, or a directive
 abbrev pub line_for : ℕ → Option Inst → List ℕ
-line_for word (Some i) = mnemonic_of i ++ listed (codes " ") (operands i)
+line_for word (Some i) = mnemonic_of i ++ listed_operands (codes " ") (operands i)
 line_for word None = codes ".word 0x" ++ hex8 word
 
 -- the line of a word

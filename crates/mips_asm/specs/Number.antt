@@ -21,8 +21,8 @@ abbrev pub hexadecimal_number : List ℕ → Option ℕ
 hexadecimal_number ds = if is_hexadecimal ds then Some (digits_value 16 ds) else None
 
 -- the value of a number: `-` and decimal digits, `0x` and hexadecimal digits, or decimal digits
-abbrev pub number : List ℕ → Option ℤ
-number text =
+abbrev pub number_value : List ℕ → Option ℤ
+number_value text =
     if slice_index text 0 == 45 then option_map (λ n. neg_ℤ (pos n)) (decimal_number (drop 1 text))
     else if slice_index text 0 == 48 && slice_index text 1 == 120 then option_map pos (hexadecimal_number (drop 2 text))
     else option_map pos (decimal_number text)

@@ -8,7 +8,7 @@ use Rattle.mips_asm.specs.declared.form.Operand.{Operand}
 use Rattle.mips_asm.specs.declared.form.Operand.TheVariants.{Register, Special, Amount, Code, Signed, Unsigned, Branch, Jump, Memory}
 use Rattle.mips_asm.specs.declared.form.Field.{Field}
 use Rattle.mips_asm.specs.declared.form.Field.TheVariants.{Rs, Rt, Rd}
-use Rattle.mips_asm.specs.Number.{number, is_name, decimal_number}
+use Rattle.mips_asm.specs.Number.{number_value, is_name, decimal_number}
 use Rattle.mips_asm.specs.Text.{trim}
 
 -- what an operand's text says: a number to add to the word, a value out of range, or a label to branch or jump to
@@ -39,8 +39,8 @@ signed_operand z = if le_z (negsuc 32767) z && le_z z (pos 32767) then adds (of_
 
 -- a number below a limit, whose field begins at a bit
 abbrev pub unsigned : ℕ → ℕ → ℤ → OperandReading
-unsigned limit place (pos n) = if nat_lt n limit then adds (n * 2 ^ place) else out (pos n)
-unsigned limit place (negsuc n) = out (negsuc n)
+unsigned limit position (pos n) = if nat_lt n limit then adds (n * 2 ^ position) else out (pos n)
+unsigned limit position (negsuc n) = out (negsuc n)
 
 -- the register of an address beside its number
 abbrev pub and_register : ℕ → OperandReading → OperandReading
@@ -58,21 +58,22 @@ abbrev pub len_before : ℕ → List ℕ → ℕ
 len_before byte text = prefix_len (λ c. not (c == byte)) text
 
 -- a text in parentheses
-abbrev pub inside : List ℕ → Option (List ℕ)
-inside text = if nat_le 2 (length text) && slice_index text (length text - 1) == 41 then Some (slice_range text 1 (length text - 1)) else None
+abbrev pub in_parentheses : List ℕ → Option (List ℕ)
+in_parentheses text = if nat_le 2 (length text) && slice_index text (length text - 1) == 41 then Some (slice_range text 1 (length text - 1)) else None
 
 -- a number, and a register in parentheses
 abbrev pub memory : List ℕ → Option OperandReading
-memory text = with_base (number (trim (take (len_before 40 text) text))) (option_and_then (λ t. register (trim t)) (inside (drop (len_before 40 text) text)))
+memory text = with_base (number_value (trim (take (len_before 40 text) text)))
+    (option_and_then (λ t. register (trim t)) (in_parentheses (drop (len_before 40 text) text)))
 
 -- what the text of an operand says, if it has the operand's form
 abbrev pub reading : Operand → List ℕ → Option OperandReading
 reading (Register field) text = option_map (λ r. adds (r * 2 ^ first_bit field)) (register text)
 reading Special text = option_map (λ k. adds (k * 2 ^ 11)) (numbered 99 9 text)
-reading Amount text = option_map (unsigned 32 6) (number text)
-reading Code text = option_map (unsigned (2 ^ 20) 6) (number text)
-reading Signed text = option_map signed_operand (number text)
-reading Unsigned text = option_map (unsigned (2 ^ 16) 0) (number text)
-reading Branch text = if is_name text then Some (branch_label text) else option_map signed_operand (number text)
-reading Jump text = if is_name text then Some (jump_label text) else option_map (unsigned (2 ^ 26) 0) (number text)
+reading Amount text = option_map (unsigned 32 6) (number_value text)
+reading Code text = option_map (unsigned (2 ^ 20) 6) (number_value text)
+reading Signed text = option_map signed_operand (number_value text)
+reading Unsigned text = option_map (unsigned (2 ^ 16) 0) (number_value text)
+reading Branch text = if is_name text then Some (branch_label text) else option_map signed_operand (number_value text)
+reading Jump text = if is_name text then Some (jump_label text) else option_map (unsigned (2 ^ 26) 0) (number_value text)
 reading Memory text = memory text

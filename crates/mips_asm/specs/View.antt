@@ -13,8 +13,8 @@ use Rattle.mips_asm.specs.Form.{Form}
 use Rattle.mips_asm.specs.Operand.{OperandReading, adds, out, branch_label, jump_label}
 
 -- a form
-abbrev pub form_view : CodeForm → Form
-form_view f = (f.inst, f.operands.now)
+abbrev pub code_form_view : CodeForm → Form
+code_form_view f = (f.inst, f.operands.now)
 
 -- a text
 abbrev pub text_view : Bor (List ℕ) → List ℕ

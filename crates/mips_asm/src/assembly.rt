@@ -4,17 +4,17 @@ ghost use Rattle.std.specs.Prelude.{◌≡◌, ◌≢◌, IfOk, IfErr, MatchResu
 ghost use Rattle.mips_asm.specs.Assembled.{assembled};
 
 use crate::fault::AsmFault;
-use crate::pass::{first_fault, places, words};
+use crate::pass::{first_fault, positions, words};
 use std::alloc::{AllocError, Global};
 
 // The answer for a text, up to want of memory.
 fn answer(alloc: Global, text: &[u8]) -> Result<Result<Vec<u32>, AsmFault>, AllocError>
     ensures { IfOk result (λ r. MatchResult r (λ ws. assembled text.now ≡ Ok ws.items) (λ f. assembled text.now ≡ Err f)) }
 {
-    let places = places(alloc, text)?;
-    match first_fault(alloc, &places, text)? {
+    let positions = positions(alloc, text)?;
+    match first_fault(alloc, &positions, text)? {
         Some(fault) => Ok(Err(fault)),
-        None => Ok(Ok(words(alloc, &places, text)?)),
+        None => Ok(Ok(words(alloc, &positions, text)?)),
     }
 }
 

@@ -4,7 +4,7 @@ ghost use Rattle.std.specs.Prelude.{◌≡◌, ◌<◌, ◌≤◌, ◌+◌, ◌^
 ghost use Rattle.std.specs.Option.{option_or};
 ghost use Rattle.mips_asm.specs.Assembled.{meaning_fault, twice_fault, branch_offset as offset_of, branch_to as branch_to_of, jump_to as jump_to_of};
 ghost use Rattle.mips_asm.specs.Assembled.{labels_resolved as resolved_of};
-ghost use Rattle.mips_asm.specs.Fault.{asm_fault_number, asm_fault_place, asm_fault_line, asm_fault_value};
+ghost use Rattle.mips_asm.specs.Fault.{asm_fault_number, asm_fault_position, asm_fault_line, asm_fault_value};
 ghost use Rattle.mips_asm.specs.Passes.{label_of, Near};
 ghost use Rattle.mips_asm.specs.View.{line_view};
 
@@ -61,7 +61,7 @@ impl AsmFault {
 
     /// The byte of the text that it names, if any.
     pub fn at(&self) -> Option<u64>
-        ensures { result ≡ asm_fault_place self.now }
+        ensures { result ≡ asm_fault_position self.now }
     {
         match self {
             AsmFault::BadByte { at } => Some(*at),
@@ -105,23 +105,23 @@ fn offset(at: u64, to: u64) -> i64
     to as i64 - (at as i64 + 1)
 }
 
-// A branch at a place, whose label has this place.
-fn branch_to<'a>(word: u32, at: u64, place: Option<u64>) -> Line<'a>
+// A branch at a position, whose label has this position.
+fn branch_to<'a>(word: u32, at: u64, position: Option<u64>) -> Line<'a>
     requires at { at < 2 ^ 62 }
-    requires to { IfSome place (λ p. p < 2 ^ 62) }
-    ensures { line_view result ≡ branch_to_of word at place }
+    requires to { IfSome position (λ p. p < 2 ^ 62) }
+    ensures { line_view result ≡ branch_to_of word at position }
 {
-    match place {
+    match position {
         None => Line::UnknownLabel,
         Some(to) => with_reading(Line::Word(word), Some(signed(offset(at, to)))),
     }
 }
 
-// A jump to a label that has this place.
-fn jump_to<'a>(word: u32, place: Option<u64>) -> Line<'a>
-    ensures { line_view result ≡ jump_to_of word place }
+// A jump to a label that has this position.
+fn jump_to<'a>(word: u32, position: Option<u64>) -> Line<'a>
+    ensures { line_view result ≡ jump_to_of word position }
 {
-    match place {
+    match position {
         None => Line::UnknownLabel,
         Some(to) => with_reading(
             Line::Word(word),
@@ -130,27 +130,27 @@ fn jump_to<'a>(word: u32, place: Option<u64>) -> Line<'a>
     }
 }
 
-// The place of a label.
-fn place_at(places: &IndexMap<&[u8], u64>, label: &[u8]) -> Option<u64>
-    ensures { result ≡ label_of places.now label.now }
+// The position of a label.
+fn position_at(positions: &IndexMap<&[u8], u64>, label: &[u8]) -> Option<u64>
+    ensures { result ≡ label_of positions.now label.now }
 {
-    places.get(label).copied()
+    positions.get(label).copied()
 }
 
-/// What a line at this place gives where the places of the labels are known.
-pub fn resolve<'a>(places: &IndexMap<&[u8], u64>, at: u64, line: Line<'a>) -> Line<'a>
+/// What a line at this position gives where the positions of the labels are known.
+pub fn resolve<'a>(positions: &IndexMap<&[u8], u64>, at: u64, line: Line<'a>) -> Line<'a>
     requires at { at < 2 ^ 62 }
-    requires places { Near places.now }
-    ensures { line_view result ≡ resolved_of (label_of places.now) at (line_view line.entry) }
+    requires positions { Near positions.now }
+    ensures { line_view result ≡ resolved_of (label_of positions.now) at (line_view line.entry) }
 {
     match line {
-        Line::Branch(word, label) => branch_to(word, at, place_at(places, label)),
-        Line::Jump(word, label) => jump_to(word, place_at(places, label)),
+        Line::Branch(word, label) => branch_to(word, at, position_at(positions, label)),
+        Line::Jump(word, label) => jump_to(word, position_at(positions, label)),
         line => line,
     }
 }
 
-/// The least fault of a line with this number, whose first bad byte stands at this place of the text; `twice` says whether
+/// The least fault of a line with this number, whose first bad byte stands at this position of the text; `twice` says whether
 /// the line sets a label again.
 pub fn line_fault(bad: u64, number: u64, line: &Line, twice: bool) -> Option<AsmFault>
     ensures { result ≡ option_or (meaning_fault bad number (line_view line.now)) (twice_fault number twice) }

@@ -4,7 +4,7 @@ ghost use Rattle.std.specs.Prelude.{◌≡◌, option_map, find, map, bytes_eq, 
 ghost use Rattle.mips_table.specs.Encoding.{InRange};
 ghost use Rattle.mips_table.specs.Rows.{mnemonic_of as mnemonic_in};
 ghost use Rattle.mips_asm.specs.Form.{forms, form_of};
-ghost use Rattle.mips_asm.specs.View.{form_view};
+ghost use Rattle.mips_asm.specs.View.{code_form_view};
 
 use crate::form::{Field, Form, Operand};
 use crate::instruction_rows::rows;
@@ -81,7 +81,7 @@ macro_rules! form_array {
 // The forms of all instructions, in the order of the instruction table.
 #[tactic(auto, unfolding(crate::specs::Form::forms))]
 fn all_forms() -> [Form; 48]
-    ensures { map form_view result ≡ forms }
+    ensures { map code_form_view result ≡ forms }
 {
     rows!(form_array)
 }
@@ -100,7 +100,7 @@ fn first_named(forms: &[Form], name: &[u8]) -> Option<Form>
 
 /// The form with this mnemonic.
 pub fn form_named(name: &[u8]) -> Option<Form>
-    ensures form { option_map form_view result ≡ form_of name.now }
+    ensures form { option_map code_form_view result ≡ form_of name.now }
     ensures in_range { IfSome result (λ f. InRange f.inst) }
 {
     first_named(&all_forms(), name)

@@ -21,7 +21,7 @@ use crate::operand::{Reading, len_before, read_operand};
 use cvm_text::{cut, trim, trim_start};
 use mips_table::encode;
 
-/// What a line gives. `read_line` knows no places of labels; `resolve` puts them in.
+/// What a line gives. `read_line` knows no positions of labels; `resolve` puts them in.
 #[derive(Clone, Copy)]
 pub enum Line<'a> {
     /// A byte that no text may have: no word.

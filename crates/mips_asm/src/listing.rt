@@ -4,7 +4,7 @@ ghost use Rattle.std.specs.Prelude.{◌≡◌, ◌≤◌, ◌++◌, length, code
 ghost use Rattle.mips_table.specs.Decoding.{decoding};
 ghost use Rattle.mips_asm.specs.Assembled.{assembled};
 ghost use Rattle.mips_asm.specs.Back.{ReadsBack};
-ghost use Rattle.mips_asm.specs.Listing.{operands as operands_of, separator_at, operand_text, listed, line_for, line_of, listing};
+ghost use Rattle.mips_asm.specs.Listing.{operands as operands_of, separator_at, operand_text, listed_operands, line_for, line_of, listing};
 
 use crate::instruction_rows::rows;
 use cvm_text::{decimal, decimal_u64, hex8};
@@ -83,7 +83,7 @@ fn separator(index: usize) -> &'static [u8]
 
 // Appends the operands, with a blank before the first and a comma and a blank before each other.
 fn put_operands(out: &mut Vec<u8>, operands: &[Written]) -> Result<(), AllocError>
-    ensures { OnOk result (out.new.items ≡ out.old.items ++ listed (codes " ") operands.now) }
+    ensures { OnOk result (out.new.items ≡ out.old.items ++ listed_operands (codes " ") operands.now) }
 {
     for (index, operand) in operands.iter().enumerate() {
         put(out, separator(index))?;
@@ -110,7 +110,7 @@ macro_rules! operand_arms {
 
 // Appends the operands of an instruction.
 fn put_operands_of(out: &mut Vec<u8>, inst: &Inst) -> Result<(), AllocError>
-    ensures { OnOk result (out.new.items ≡ out.old.items ++ listed (codes " ") (operands_of inst.now)) }
+    ensures { OnOk result (out.new.items ≡ out.old.items ++ listed_operands (codes " ") (operands_of inst.now)) }
 {
     rows!(operand_arms, *inst, out)
 }

@@ -4,7 +4,7 @@ ghost use Rattle.std.specs.Prelude.{◌≡◌, ◌≤◌, ◌<◌, ◌^◌, true
 ghost use Rattle.std.specs.List.{list_all};
 ghost use Rattle.std.specs.Char.{is_ascii_digit, is_ascii_hexdigit, digit_value};
 ghost use Rattle.std.specs.Str.Parse.{digits_value};
-ghost use Rattle.mips_asm.specs.Number.{number as number_of, decimal_number as decimal_number_of, hexadecimal_number as hexadecimal_number_of};
+ghost use Rattle.mips_asm.specs.Number.{number_value as number_of, decimal_number as decimal_number_of, hexadecimal_number as hexadecimal_number_of};
 ghost use Rattle.mips_asm.specs.Number.{is_name as is_name_of, in_name as in_name_of, begins_name as begins_name_of, is_decimal as is_decimal_of};
 ghost use Rattle.mips_asm.specs.Number.{is_hexadecimal as is_hexadecimal_of};
 

@@ -2,7 +2,7 @@
 
 ghost use Rattle.std.specs.Prelude.{◌≡◌, ◌≤◌, ◌<◌, ◌^◌, ◌*◌, length, option_map, IfSome};
 ghost use Rattle.mips_asm.specs.Operand.{reading as reading_of, numbered as numbered_of, register as register_of, signed_operand as signed_of, unsigned as unsigned_of};
-ghost use Rattle.mips_asm.specs.Operand.{with_base as with_base_of, memory as memory_of, len_before as len_before_of, inside as inside_of};
+ghost use Rattle.mips_asm.specs.Operand.{with_base as with_base_of, memory as memory_of, len_before as len_before_of, in_parentheses as inside_of};
 ghost use Rattle.mips_asm.specs.Operand.{first_bit as first_bit_of};
 ghost use Rattle.mips_asm.specs.View.{reading_view, text_view};
 
@@ -62,13 +62,13 @@ pub fn signed<'a>(value: i64) -> Reading<'a>
 }
 
 // A number below a limit, in its field.
-fn unsigned<'a>(limit: u32, place: u32, value: i64) -> Reading<'a>
-    requires place { place < 32 }
-    requires fits { limit * 2 ^ place ≤ 2 ^ 32 }
-    ensures { reading_view result ≡ unsigned_of limit place value }
+fn unsigned<'a>(limit: u32, position: u32, value: i64) -> Reading<'a>
+    requires position { position < 32 }
+    requires fits { limit * 2 ^ position ≤ 2 ^ 32 }
+    ensures { reading_view result ≡ unsigned_of limit position value }
 {
     if value >= 0 && value < i64::from(limit) {
-        Reading::Adds((value as u32) << place)
+        Reading::Adds((value as u32) << position)
     } else {
         Reading::Out(value)
     }

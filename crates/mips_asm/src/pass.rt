@@ -2,8 +2,8 @@
 
 ghost use Rattle.std.specs.Prelude.{◌≡◌, ◌≤◌, ◌<◌, ◌+◌, ◌++◌, ◌^◌, ℕ, List, false, OnOk, IfOk, IfSome, is_some, length, ◌||◌, Some, None, []};
 ghost use Rattle.mips_asm.specs.Text.{colon_parts, labels_in, asm_lines};
-ghost use Rattle.mips_asm.specs.Assembled.{label_place, has, labels, meaning_words};
-ghost use Rattle.mips_asm.specs.Passes.{label_of, Near, SetsLabels, repeats_in, fault_at, fault_from, words_from};
+ghost use Rattle.mips_asm.specs.Assembled.{label_position, has, labels, meaning_words};
+ghost use Rattle.mips_asm.specs.Passes.{label_of, Near, SetsLabels, repeats_in, line_fault_at, fault_from, line_words_from};
 ghost use Rattle.mips_asm.specs.View.{line_view};
 
 use crate::fault::{AsmFault, line_fault, resolve};
@@ -14,19 +14,19 @@ use std::alloc::{AllocError, Global};
 
 // Sets the labels of a line's content that are not set yet, and answers whether one was set before.
 fn set_labels<'a>(
-    places: &mut IndexMap<&'a [u8], u64>,
+    positions: &mut IndexMap<&'a [u8], u64>,
     text: &'a [u8],
     at: u64,
 ) -> Result<bool, AllocError>
-    ensures places { OnOk result (SetsLabels places.old places.new (labels_in (colon_parts text.now)) at) }
-    ensures twice { IfOk result (λ t. t ≡ repeats_in (λ q. is_some (label_of places.old q)) (labels_in (colon_parts text.now))) }
+    ensures positions { OnOk result (SetsLabels positions.old positions.new (labels_in (colon_parts text.now)) at) }
+    ensures twice { IfOk result (λ t. t ≡ repeats_in (λ q. is_some (label_of positions.old q)) (labels_in (colon_parts text.now))) }
 {
     let mut twice = false;
     let mut rest = text;
     while let Some((label, after)) = next_label(rest) {
-        match places.get(label) {
+        match positions.get(label) {
             Some(_) => twice = true,
-            None => match places.insert(label, at) {
+            None => match positions.insert(label, at) {
                 Ok(_) => {}
                 Err(_) => return Err(AllocError),
             },
@@ -36,8 +36,8 @@ fn set_labels<'a>(
     Ok(twice)
 }
 
-// The place after a line of so many words. A text that passes 2^62 words would take petabytes.
-fn next_place(at: u64, width: u32) -> Result<u64, AllocError>
+// The position after a line of so many words. A text that passes 2^62 words would take petabytes.
+fn next_position(at: u64, width: u32) -> Result<u64, AllocError>
     requires { at < 2 ^ 62 }
     ensures value { IfOk result (λ n. n ≡ at + width) }
     ensures near { IfOk result (λ n. n < 2 ^ 62) }
@@ -50,54 +50,54 @@ fn next_place(at: u64, width: u32) -> Result<u64, AllocError>
     }
 }
 
-/// The places of all labels, in words from the text's start.
-pub fn places(alloc: Global, text: &[u8]) -> Result<IndexMap<&[u8], u64>, AllocError>
-    ensures places { IfOk result (λ m. (q : List ℕ) → label_of m q ≡ label_place (asm_lines text.now) q) }
+/// The positions of all labels, in words from the text's start.
+pub fn positions(alloc: Global, text: &[u8]) -> Result<IndexMap<&[u8], u64>, AllocError>
+    ensures positions { IfOk result (λ m. (q : List ℕ) → label_of m q ≡ label_position (asm_lines text.now) q) }
     ensures near { IfOk result (λ m. Near m) }
 {
-    let mut places = IndexMap::new(alloc);
+    let mut positions = IndexMap::new(alloc);
     let mut at = 0u64;
     let mut here = text;
     loop {
         let (line, after) = cut(here, b'\n');
-        set_labels(&mut places, label_text(line), at)?;
+        set_labels(&mut positions, label_text(line), at)?;
         let Some(after) = after else {
-            return Ok(places);
+            return Ok(positions);
         };
-        at = next_place(at, width(&read_line(line)))?;
+        at = next_position(at, width(&read_line(line)))?;
         here = after;
     }
 }
 
-// The fault of a line that starts at this byte and has this number and place, where the labels of the lines before are
+// The fault of a line that starts at this byte and has this number and position, where the labels of the lines before are
 // in `seen`; its own labels are added to them.
 fn fault_of_line<'a>(
     seen: &mut IndexMap<&'a [u8], u64>,
-    places: &IndexMap<&[u8], u64>,
+    positions: &IndexMap<&[u8], u64>,
     start: usize,
     number: u64,
     at: u64,
     line: &'a [u8],
 ) -> Result<Option<AsmFault>, AllocError>
-    requires places { Near places.now }
+    requires positions { Near positions.now }
     requires at { at < 2 ^ 62 }
     requires start { start + length line.now < 2 ^ 64 }
-    ensures fault { IfOk result (λ f. f ≡ fault_at (label_of places.now) (λ q. is_some (label_of seen.old q)) start number at line.now) }
+    ensures fault { IfOk result (λ f. f ≡ line_fault_at (label_of positions.now) (λ q. is_some (label_of seen.old q)) start number at line.now) }
     ensures seen { OnOk result ((q : List ℕ) → is_some (label_of seen.new q) ≡ (is_some (label_of seen.old q) || has (labels line.now) q)) }
 {
     let twice = set_labels(seen, label_text(line), at)?;
     let bad = (start + good_len(line)) as u64;
-    Ok(line_fault(bad, number, &resolve(places, at, read_line(line)), twice))
+    Ok(line_fault(bad, number, &resolve(positions, at, read_line(line)), twice))
 }
 
-/// The first fault of a text whose labels have these places.
+/// The first fault of a text whose labels have these positions.
 pub fn first_fault(
     alloc: Global,
-    places: &IndexMap<&[u8], u64>,
+    positions: &IndexMap<&[u8], u64>,
     text: &[u8],
 ) -> Result<Option<AsmFault>, AllocError>
-    requires { Near places.now }
-    ensures { IfOk result (λ f. f ≡ fault_from (label_of places.now) (λ q. false) 0 1 0 (asm_lines text.now)) }
+    requires { Near positions.now }
+    ensures { IfOk result (λ f. f ≡ fault_from (label_of positions.now) (λ q. false) 0 1 0 (asm_lines text.now)) }
 {
     let mut seen = IndexMap::new(alloc);
     let mut start = 0usize;
@@ -106,11 +106,11 @@ pub fn first_fault(
     let mut here = text;
     loop {
         let (line, after) = cut(here, b'\n');
-        let fault = fault_of_line(&mut seen, places, start, number, at, line)?;
+        let fault = fault_of_line(&mut seen, positions, start, number, at, line)?;
         if fault.is_some() {
             return Ok(fault);
         }
-        at = next_place(at, width(&read_line(line)))?;
+        at = next_position(at, width(&read_line(line)))?;
         let Some(after) = after else {
             return Ok(too_long(at));
         };
@@ -142,14 +142,14 @@ fn append(words: &mut Vec<u32>, line: &Line) -> Result<(), AllocError>
     }
 }
 
-/// The words of a text whose labels have these places.
+/// The words of a text whose labels have these positions.
 pub fn words(
     alloc: Global,
-    places: &IndexMap<&[u8], u64>,
+    positions: &IndexMap<&[u8], u64>,
     text: &[u8],
 ) -> Result<Vec<u32>, AllocError>
-    requires { Near places.now }
-    ensures { IfOk result (λ ws. ws.items ≡ words_from (label_of places.now) 0 (asm_lines text.now)) }
+    requires { Near positions.now }
+    ensures { IfOk result (λ ws. ws.items ≡ line_words_from (label_of positions.now) 0 (asm_lines text.now)) }
 {
     let mut words = Vec::new(alloc);
     let mut at = 0u64;
@@ -157,11 +157,11 @@ pub fn words(
     loop {
         let (line, after) = cut(here, b'\n');
         let meaning = read_line(line);
-        append(&mut words, &resolve(places, at, meaning))?;
+        append(&mut words, &resolve(positions, at, meaning))?;
         let Some(after) = after else {
             return Ok(words);
         };
-        at = next_place(at, width(&meaning))?;
+        at = next_position(at, width(&meaning))?;
         here = after;
     }
 }

@@ -20,8 +20,8 @@ use Rattle.mips_machine.specs.Hardware.{Hardware, state_in, instructed, chosen, 
 use Rattle.mips_machine.specs.Quiet.{IsQuiet}
 use Rattle.mips_machine.specs.Steps.{event_of, script_of_step}
 use Rattle.mips_machine.specs.Stretch.{in_memory, place, EffectMakes, RunsWord, FetchesWord, LoadsWord, Stores, Plain, Row}
-use Rattle.mips_machine.proofs.Interrupting.{line_comes, later}
-use Rattle.mips_machine.proofs.Execute.{board_of, with_board}
+use Rattle.mips_machine.proofs.ComingInterrupt.{line_comes, later}
+use Rattle.mips_machine.proofs.BoardSteps.{board_of, with_board}
 use Rattle.mips_machine.proofs.StepsAreSteps.{on_step, on_event, on_due}
 
 -- a choice that gives something was taken

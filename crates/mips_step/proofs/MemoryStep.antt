@@ -9,7 +9,7 @@ use Rattle.mips_table.specs.declared.effect.Effect.{Effect}
 use Rattle.mips_table.specs.declared.effect.Effect.TheVariants.{Set, Wide, Load, Store, Overflow, Call, System}
 use Rattle.mips_table.specs.Decoding.{decoding}
 use Rattle.mips_table.specs.Processor.{Cpu, Access, Move, Loaded, Stored, Trapped, with_loaded, advanced, is_aligned, accessed, performed, executed, effect_on}
-use Rattle.mips_step.specs.Step.{StepOutcome, took_place, trap, EffectPerforms, Executes, StepsOver}
+use Rattle.mips_step.specs.Step.{StepOutcome, took_place, trapped_to, EffectPerforms, Executes, StepsOver}
 use Rattle.mips_step.specs.Ends.{StepEnds, BusReads, StepsInMemory}
 
 -- a test that is told by MatchBool
@@ -37,15 +37,15 @@ module _ {S V : Type 0} (may_fetch may_load may_store : S → ℕ → Bool) (loa
     E : Cpu → V → StepOutcome → S → Move → Type 0
     E cpu v end new m = StepEnds access word read written cpu v m end (view new)
 
-    trapped : (cpu : Cpu) (mid : S) (cause : Cause) (edata epc : ℕ) (end : StepOutcome) (new : S) → (end ≡ trap cpu cause edata epc) × (new ≡ mid) → E cpu (view mid) end new (Trapped cause edata epc)
+    trapped : (cpu : Cpu) (mid : S) (cause : Cause) (edata epc : ℕ) (end : StepOutcome) (new : S) → (end ≡ trapped_to cpu cause edata epc) × (new ≡ mid) → E cpu (view mid) end new (Trapped cause edata epc)
     unfolding E
     trapped cpu mid cause edata epc end new h = (h.0, ap view h.1)
 
     reached : (cpu : Cpu) (mid : S) (asked may : Bool) (seen : asked ≡ may) (address : ℕ) (end : StepOutcome) (new : S) (Does : Type 0) (m : Move) →
-        MatchBool (is_aligned address) (MatchBool asked Does ((end ≡ trap cpu causes.DataFault address cpu.pc) × (new ≡ mid))) ((end ≡ trap cpu causes.DataAlign address cpu.pc) × (new ≡ mid)) →
+        MatchBool (is_aligned address) (MatchBool asked Does ((end ≡ trapped_to cpu causes.DataFault address cpu.pc) × (new ≡ mid))) ((end ≡ trapped_to cpu causes.DataAlign address cpu.pc) × (new ≡ mid)) →
         (Does → E cpu (view mid) end new m) → E cpu (view mid) end new (accessed may causes.DataAlign causes.DataFault address cpu.pc m)
     reached cpu mid asked may seen address end new Does m h f =
-        let T : Cause → Type 0 = λ c. (end ≡ trap cpu c address cpu.pc) × (new ≡ mid) in
+        let T : Cause → Type 0 = λ c. (end ≡ trapped_to cpu c address cpu.pc) × (new ≡ mid) in
         choose (is_aligned address) (MatchBool asked Does (T causes.DataFault)) (T causes.DataAlign) (E cpu (view mid) end new) _ _ h
         (λ g. choose may Does (T causes.DataFault) (E cpu (view mid) end new) _ _ (subst (λ b. MatchBool b Does (T causes.DataFault)) seen g) f (λ t. trapped cpu mid causes.DataFault address cpu.pc end new t))
         (λ t. trapped cpu mid causes.DataAlign address cpu.pc end new t)
@@ -71,7 +71,7 @@ module _ {S V : Type 0} (may_fetch may_load may_store : S → ℕ → Bool) (loa
     pub ends : (cpu : Cpu) (old : S) (end : StepOutcome) (new : S) → StepsOver may_fetch may_load may_store loads stores cpu old end new → StepsInMemory access word read written cpu (view old) end (view new)
     unfolding E
     ends cpu old end new h =
-        let T : Cause → Type 0 = λ c. (end ≡ trap cpu c cpu.pc cpu.pc) × (new ≡ old) in
+        let T : Cause → Type 0 = λ c. (end ≡ trapped_to cpu c cpu.pc cpu.pc) × (new ≡ old) in
         let Does : Type 0 = (code : ℕ) × (mid : S) × loads old cpu.pc code mid × Executes may_fetch may_load may_store loads stores cpu mid code (decoding code) end new in
         let v : V = view old in
         let at : Access → V → ℕ → Type 0 = λ a seen code. E cpu seen end new (executed a cpu code (decoding code)) in

@@ -2,7 +2,7 @@
 use Rattle.std.specs.Prelude.{◌≡◌, ℕ, if◌then◌else◌}
 use Rattle.mips_table.specs.declared.cause.Cause.TheVariants as causes
 use Rattle.mips_table.specs.Processor.{Cpu, Access, Move, Ran, Loaded, Stored, Trapped, Privileged, with_loaded, is_aligned, move}
-use Rattle.mips_step.specs.Step.{StepOutcome, took_place, trap}
+use Rattle.mips_step.specs.Step.{StepOutcome, took_place, trapped_to}
 
 -- a read, by a fetch or a load, answers the word that is seen there, and leaves what read says
 abbrev pub BusReads : {V : Type 0} → (V → ℕ → ℕ) → (V → ℕ → V) → V → ℕ → ℕ → V → Type 0
@@ -19,8 +19,8 @@ module _ {V : Type 0} (access : V → Access) (word : V → ℕ → ℕ) (read :
   StepEnds cpu seen (Ran after) end new = (end ≡ took_place after) × (new ≡ seen)
   StepEnds cpu seen (Loaded after register address) end new = (end ≡ took_place (with_loaded after register (word seen address))) × (new ≡ read seen address)
   StepEnds cpu seen (Stored after address value) end new = (end ≡ took_place after) × (new ≡ written seen address value)
-  StepEnds cpu seen (Trapped cause edata epc) end new = (end ≡ trap cpu cause edata epc) × (new ≡ seen)
-  StepEnds cpu seen (Privileged code) end new = (end ≡ trap cpu causes.Illegal code cpu.pc) × (new ≡ seen)
+  StepEnds cpu seen (Trapped cause edata epc) end new = (end ≡ trapped_to cpu cause edata epc) × (new ≡ seen)
+  StepEnds cpu seen (Privileged code) end new = (end ≡ trapped_to cpu causes.Illegal code cpu.pc) × (new ≡ seen)
 
   -- one step: the fetch, and then the move over what it left
   abbrev pub StepsInMemory : Cpu → V → StepOutcome → V → Type 0

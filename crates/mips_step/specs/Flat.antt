@@ -5,10 +5,10 @@ use Rattle.mips_step.specs.declared.cpu.Outcome.{Outcome}
 use Rattle.mips_step.specs.declared.cpu.Outcome.TheVariants.{Done, Trap}
 
 -- reads change nothing
-abbrev pub unchanged : List ℕ → ℕ → List ℕ
-unchanged words address = words
+abbrev pub reads_unchanged : List ℕ → ℕ → List ℕ
+reads_unchanged words address = words
 
 -- the machine after a step, with how it ended
-abbrev pub answer : Outcome → table.Flat → table.VStep
-answer Done after = table.Goes after
-answer (Trap cause edata) after = table.Trap after cause edata
+abbrev pub vstep_of : Outcome → table.Flat → table.VStep
+vstep_of Done after = table.Goes after
+vstep_of (Trap cause edata) after = table.Trap after cause edata

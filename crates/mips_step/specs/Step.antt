@@ -6,7 +6,7 @@ use Rattle.mips_table.specs.declared.cause.Cause.TheVariants as causes
 use Rattle.mips_table.specs.declared.effect.Effect.{Effect}
 use Rattle.mips_table.specs.declared.effect.Effect.TheVariants.{Set, Wide, Load, Store, Overflow, Call, System}
 use Rattle.mips_table.specs.Decoding.{decoding}
-use Rattle.mips_table.specs.Effect.{next}
+use Rattle.mips_table.specs.Effect.{next_address}
 use Rattle.mips_table.specs.Processor.{Cpu, went_on, with_loaded, advanced, is_aligned, effect_on}
 use Rattle.mips_step.specs.declared.cpu.Outcome.{Outcome}
 use Rattle.mips_step.specs.declared.cpu.Outcome.TheVariants.{Done, Trap}
@@ -21,8 +21,8 @@ abbrev pub took_place : Cpu → StepOutcome
 took_place cpu = record { outcome = Done; cpu = cpu }
 
 -- a trap, with its cause, what it concerns and where to go on; it leaves the registers
-abbrev pub trap : Cpu → Cause → ℕ → ℕ → StepOutcome
-trap cpu cause edata epc = record { outcome = Trap cause edata; cpu = record cpu { pc = epc } }
+abbrev pub trapped_to : Cpu → Cause → ℕ → ℕ → StepOutcome
+trapped_to cpu cause edata epc = record { outcome = Trap cause edata; cpu = record cpu { pc = epc } }
 
 -- the processor over a bus whose value has the type S
 module _ {S : Type 0} (may_fetch may_load may_store : S → ℕ → Bool) (loads stores : S → ℕ → ℕ → S → Type 0) where
@@ -30,8 +30,8 @@ module _ {S : Type 0} (may_fetch may_load may_store : S → ℕ → Bool) (loads
   abbrev pub Accesses : Bool → Cpu → ℕ → S → StepOutcome → S → Type 0 → Type 0
   Accesses may cpu address mid end new Does =
       MatchBool (is_aligned address)
-      (MatchBool may Does ((end ≡ trap cpu causes.DataFault address cpu.pc) × (new ≡ mid)))
-      ((end ≡ trap cpu causes.DataAlign address cpu.pc) × (new ≡ mid))
+      (MatchBool may Does ((end ≡ trapped_to cpu causes.DataFault address cpu.pc) × (new ≡ mid)))
+      ((end ≡ trapped_to cpu causes.DataAlign address cpu.pc) × (new ≡ mid))
 
   -- what an effect does
   abbrev pub EffectPerforms : Cpu → S → ℕ → Effect → StepOutcome → S → Type 0
@@ -43,13 +43,13 @@ module _ {S : Type 0} (may_fetch may_load may_store : S → ℕ → Bool) (loads
   EffectPerforms cpu mid word (Store address value) end new =
       Accesses (may_store mid address) cpu address mid end new
       (stores mid address value new × (end ≡ took_place (advanced cpu)))
-  EffectPerforms cpu mid word Overflow end new = (end ≡ trap cpu causes.Overflow word (next cpu.pc)) × (new ≡ mid)
-  EffectPerforms cpu mid word Call end new = (end ≡ trap cpu causes.Syscall word (next cpu.pc)) × (new ≡ mid)
-  EffectPerforms cpu mid word System end new = (end ≡ trap cpu causes.Illegal word cpu.pc) × (new ≡ mid)
+  EffectPerforms cpu mid word Overflow end new = (end ≡ trapped_to cpu causes.Overflow word (next_address cpu.pc)) × (new ≡ mid)
+  EffectPerforms cpu mid word Call end new = (end ≡ trapped_to cpu causes.Syscall word (next_address cpu.pc)) × (new ≡ mid)
+  EffectPerforms cpu mid word System end new = (end ≡ trapped_to cpu causes.Illegal word cpu.pc) × (new ≡ mid)
 
   -- what the instruction in a word does, if there is one
   abbrev pub Executes : Cpu → S → ℕ → Option Inst → StepOutcome → S → Type 0
-  Executes cpu mid word None end new = (end ≡ trap cpu causes.Illegal word cpu.pc) × (new ≡ mid)
+  Executes cpu mid word None end new = (end ≡ trapped_to cpu causes.Illegal word cpu.pc) × (new ≡ mid)
   Executes cpu mid word (Some inst) end new = EffectPerforms cpu mid word (effect_on inst cpu) end new
 
   -- fetch, then the instruction over the bus that the fetch left
@@ -58,5 +58,5 @@ module _ {S : Type 0} (may_fetch may_load may_store : S → ℕ → Bool) (loads
       MatchBool (is_aligned cpu.pc)
       (MatchBool (may_fetch old cpu.pc)
       ((word : ℕ) × (mid : S) × loads old cpu.pc word mid × Executes cpu mid word (decoding word) end new)
-      ((end ≡ trap cpu causes.FetchFault cpu.pc cpu.pc) × (new ≡ old)))
-      ((end ≡ trap cpu causes.FetchAlign cpu.pc cpu.pc) × (new ≡ old))
+      ((end ≡ trapped_to cpu causes.FetchFault cpu.pc cpu.pc) × (new ≡ old)))
+      ((end ≡ trapped_to cpu causes.FetchAlign cpu.pc cpu.pc) × (new ≡ old))

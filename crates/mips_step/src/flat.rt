@@ -3,7 +3,7 @@ ghost use Rattle.std.specs.Prelude.{◌≡◌, ℕ, ◌/◌, List, slice_set, re
 ghost use Rattle.std.proofs.Common.{ap};
 ghost use Rattle.mips_table.specs.Flat.{vstep, is_inside, flat_access, word_at};
 ghost use Rattle.mips_step.specs.Ends.{BusReads};
-ghost use Rattle.mips_step.specs.Flat.{answer, unchanged};
+ghost use Rattle.mips_step.specs.Flat.{vstep_of, reads_unchanged};
 ghost use Rattle.mips_step.specs.View.{cpu_of};
 
 use crate::bus::{Bus, MemoryBus};
@@ -23,7 +23,7 @@ impl Bus for Flat {
 
     ghost may_store = { λ s a. is_inside s.words.items a };
 
-    ghost loads = { λ s a value t. BusReads word_at unchanged s.words.items a value t.words.items };
+    ghost loads = { λ s a value t. BusReads word_at reads_unchanged s.words.items a value t.words.items };
 
     ghost stores = { λ s a value t. t.words.items ≡ slice_set s.words.items (a / 4) value };
 
@@ -65,7 +65,7 @@ impl MemoryBus for Flat {
 
     ghost word = { word_at };
 
-    ghost read = { unchanged };
+    ghost read = { reads_unchanged };
 
     ghost written = { λ words a value. slice_set words (a / 4) value };
 
@@ -85,7 +85,7 @@ impl MemoryBus for Flat {
 /// One step of the flat machine.
 pub fn flat_step(cpu: &mut Cpu, flat: &mut Flat) -> Outcome
     ensures { vstep (record { cpu = cpu_of cpu.old; words = flat.old.words.items })
-        ≡ answer result (record { cpu = cpu_of cpu.new; words = flat.new.words.items }) }
+        ≡ vstep_of result (record { cpu = cpu_of cpu.new; words = flat.new.words.items }) }
 {
     step_in_memory(cpu, flat)
 }

@@ -20,8 +20,8 @@ use Rattle.mips_table.specs.Simulation.{Quiet, MemoryHolds}
 use Rattle.mips_table.specs.Borders.{Taken}
 use Rattle.mips_table.proofs.DecodingInverts.{decoding-encoding}
 use Rattle.mips_table.proofs.Words.{step_fits}
-use Rattle.mips_table.proofs.Instruction.{plainly, instruction, below}
-use Rattle.mips_table.proofs.Simulate.{latched_quiet}
+use Rattle.mips_table.proofs.OneInstruction.{plainly, instruction, below}
+use Rattle.mips_table.proofs.MachineSimulates.{latched_quiet}
 
 -- a machine that is off
 step_off : (x : Environment) (s : State) (word : ℕ) → s.off ≡ Some word → step x s ≡ s

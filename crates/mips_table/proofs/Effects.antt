@@ -12,7 +12,7 @@ use Rattle.mips_table.specs.declared.inst.Inst.TheVariants.{Sll, Srl, Sra, Sllv,
 use Rattle.mips_table.specs.declared.effect.Effect.TheVariants.{Set, Wide, Overflow}
 use Rattle.mips_table.specs.Arith.{signed, sum, difference, sum_overflows, difference_overflows, is_negative, is_positive, shifted_signed, extended, flag, signed_product, signed_quotient, signed_remainder}
 use Rattle.mips_table.specs.Encoding.{InRange}
-use Rattle.mips_table.specs.Effect.{next, branch, jump_target, set_halves, divided, divided_unsigned, effect_of}
+use Rattle.mips_table.specs.Effect.{next_address, branch, jump_target, set_halves, division_effect, divided_unsigned, effect_of}
 use Rattle.mips_table.specs.Fits.{IsWord, EffectFits}
 
 cut : (n : ℕ) → n % 2 ^ 32 < 2 ^ 32
@@ -31,7 +31,7 @@ signed_part : (n k : ℕ) → n < 2 ^ 32 → shifted_signed n k < 2 ^ 32
 signed_part n k h = cond_both (is_negative n) (2 ^ 32 - 1 - (2 ^ 32 - 1 - n) / 2 ^ k) (n / 2 ^ k) IsWord (λ e. top _) (λ e. part n (2 ^ k) h)
 
 branches : (pc imm : ℕ) (taken : Bool) → branch pc imm taken < 2 ^ 32
-branches pc imm taken = cond_both taken ((pc + 4 + 4 * extended imm) % 2 ^ 32) (next pc) IsWord (λ e. cut _) (λ e. cut _)
+branches pc imm taken = cond_both taken ((pc + 4 + 4 * extended imm) % 2 ^ 32) (next_address pc) IsWord (λ e. cut _) (λ e. cut _)
 
 jumps : (pc index : ℕ) → index < 2 ^ 26 → jump_target pc index < 2 ^ 32
 jumps pc index h = omega arith
@@ -80,17 +80,17 @@ product64 a b h k =
 halved : (pc n : ℕ) → n < 2 ^ 64 → EffectFits (set_halves pc n)
 halved pc n h = (omega arith, cut n, cut _)
 
-divides : (a b pc hi lo : ℕ) → IsWord a → IsWord hi → IsWord lo → EffectFits (divided a b pc hi lo)
+divides : (a b pc hi lo : ℕ) → IsWord a → IsWord hi → IsWord lo → EffectFits (division_effect a b pc hi lo)
 divides a b pc hi lo h u l =
     let x : ℤ = signed a in
     let y : ℤ = signed b in
     let most : nat_abs x ≤ 2 ^ 31 = size a h in
-    cond_both (b == 0) (Wide hi lo (next pc)) (Wide (signed_remainder a b) (signed_quotient a b) (next pc)) EffectFits (λ e. (u, l, cut _))
+    cond_both (b == 0) (Wide hi lo (next_address pc)) (Wide (signed_remainder a b) (signed_quotient a b) (next_address pc)) EffectFits (λ e. (u, l, cut _))
     (λ e. (cast32 (int_rem x y) (omega (arith, size_rem x y)), cast32 (int_div x y) (omega (arith, size_div x y)), cut _))
 
 divides_unsigned : (a b pc hi lo : ℕ) → IsWord a → IsWord hi → IsWord lo → EffectFits (divided_unsigned a b pc hi lo)
 divides_unsigned a b pc hi lo h u l =
-    cond_both (b == 0) (Wide hi lo (next pc)) (Wide (a % b) (a / b) (next pc)) EffectFits (λ e. (u, l, cut _)) (λ e. (omega (arith, mod-le a b), part a b h, cut _))
+    cond_both (b == 0) (Wide hi lo (next_address pc)) (Wide (a % b) (a / b) (next_address pc)) EffectFits (λ e. (u, l, cut _)) (λ e. (omega (arith, mod-le a b), part a b h, cut _))
 
 pub bounded : (i : Inst) (pc : ℕ) (reg : ℕ → ℕ) (hi lo : ℕ) → ((r : ℕ) → IsWord (reg r)) → IsWord hi → IsWord lo → InRange i → EffectFits (effect_of i pc reg hi lo)
 bounded (Sll rd rt sa) pc reg hi lo w u l h = (h.0, cut _, cut _)
@@ -102,9 +102,9 @@ bounded (Srav rd rt rs) pc reg hi lo w u l h = (h.0, signed_part _ _ (w rt), cut
 bounded (Jr rs) pc reg hi lo w u l h = (omega arith, omega arith, w rs)
 bounded (Jalr rd rs) pc reg hi lo w u l h = (h.0, cut _, w rs)
 bounded (Syscall code) pc reg hi lo w u l h = tt
-bounded (Add rd rs rt) pc reg hi lo w u l h = cond_both (sum_overflows (reg rs) (reg rt)) Overflow (Set rd (sum (reg rs) (reg rt)) (next pc)) EffectFits (λ e. tt) (λ e. (h.0, cut _, cut _))
+bounded (Add rd rs rt) pc reg hi lo w u l h = cond_both (sum_overflows (reg rs) (reg rt)) Overflow (Set rd (sum (reg rs) (reg rt)) (next_address pc)) EffectFits (λ e. tt) (λ e. (h.0, cut _, cut _))
 bounded (Addu rd rs rt) pc reg hi lo w u l h = (h.0, cut _, cut _)
-bounded (Sub rd rs rt) pc reg hi lo w u l h = cond_both (difference_overflows (reg rs) (reg rt)) Overflow (Set rd (difference (reg rs) (reg rt)) (next pc)) EffectFits (λ e. tt) (λ e. (h.0, cut _, cut _))
+bounded (Sub rd rs rt) pc reg hi lo w u l h = cond_both (difference_overflows (reg rs) (reg rt)) Overflow (Set rd (difference (reg rs) (reg rt)) (next_address pc)) EffectFits (λ e. tt) (λ e. (h.0, cut _, cut _))
 bounded (Subu rd rs rt) pc reg hi lo w u l h = (h.0, cut _, cut _)
 bounded (And rd rs rt) pc reg hi lo w u l h = (h.0, omega (arith, and_le_l (reg rs) (reg rt), w rs), cut _)
 bounded (Or rd rs rt) pc reg hi lo w u l h = (h.0, or_of_32 _ _ (w rs) (w rt), cut _)
@@ -120,7 +120,7 @@ bounded (Beq rs rt imm) pc reg hi lo w u l h = (omega arith, omega arith, branch
 bounded (Bne rs rt imm) pc reg hi lo w u l h = (omega arith, omega arith, branches pc imm (not (reg rs == reg rt)))
 bounded (Blez rs imm) pc reg hi lo w u l h = (omega arith, omega arith, branches pc imm (not (is_positive (reg rs))))
 bounded (Bgtz rs imm) pc reg hi lo w u l h = (omega arith, omega arith, branches pc imm (is_positive (reg rs)))
-bounded (Addi rt rs imm) pc reg hi lo w u l h = cond_both (sum_overflows (reg rs) (extended imm)) Overflow (Set rt (sum (reg rs) (extended imm)) (next pc)) EffectFits (λ e. tt) (λ e. (h.0, cut _, cut _))
+bounded (Addi rt rs imm) pc reg hi lo w u l h = cond_both (sum_overflows (reg rs) (extended imm)) Overflow (Set rt (sum (reg rs) (extended imm)) (next_address pc)) EffectFits (λ e. tt) (λ e. (h.0, cut _, cut _))
 bounded (Addiu rt rs imm) pc reg hi lo w u l h = (h.0, cut _, cut _)
 bounded (Slti rt rs imm) pc reg hi lo w u l h = (h.0, bit _, cut _)
 bounded (Sltiu rt rs imm) pc reg hi lo w u l h = (h.0, bit _, cut _)

@@ -10,7 +10,7 @@ use Rattle.mips_table.specs.declared.table.Row.{Row}
 use Rattle.mips_table.specs.Word.{r_word, i_word, j_word, code_word}
 use Rattle.mips_table.specs.Encoding.{InRange, encoding}
 use Rattle.mips_table.specs.Decoding.{decoding}
-use Rattle.mips_table.specs.Rows.{Decodes, AreInstructions, mnemonic_of, row_place}
+use Rattle.mips_table.specs.Rows.{Decodes, AreInstructions, mnemonic_of, row_index}
 use Rattle.mips_table.proofs.Masks.{under_shift, under_registers, under_jr, under_syscall, under_special, under_jalr, under_sign, under_opcode, under_lui, under_pair, under_target, under_all}
 
 -- a row without its place in memory
@@ -83,7 +83,7 @@ abbrev Has : Inst → Plain → Type 0
 Has i p = (p.mnemonic ≡ mnemonic_of i) × Under (encoding i) p
 
 -- the word of each instruction is its row's
-encoded : (i : Inst) → InRange i → IsSomeAnd (slice_get plain (row_place i)) (Has i)
+encoded : (i : Inst) → InRange i → IsSomeAnd (slice_get plain (row_index i)) (Has i)
 encoded (Sll rd rt sa) h = (refl, (under_shift (r_word 0 0 rt rd sa 0x00) (omega arith) ∙ omega arith, λ t. absurd (cc)))
 encoded (Srl rd rt sa) h = (refl, (under_shift (r_word 0 0 rt rd sa 0x02) (omega arith) ∙ omega arith, λ t. absurd (cc)))
 encoded (Sra rd rt sa) h = (refl, (under_shift (r_word 0 0 rt rd sa 0x03) (omega arith) ∙ omega arith, λ t. absurd (cc)))
@@ -352,6 +352,6 @@ carry_all (r ∷ rows) h = All-cons Decodes r rows h.0 (carry_all rows h.1)
 -- rows that look like the plain ones are the instructions' rows
 pub instructions : (rows : List Row) → map shown rows ≡ plain → AreInstructions rows
 instructions rows e = record {
-  encoded = λ i h. carry_get rows (row_place i) (Has i) (rw e (encoded i h));
+  encoded = λ i h. carry_get rows (row_index i) (Has i) (rw e (encoded i h));
   decoded = carry_all rows (rw e decoded_plain);
 }

@@ -7,7 +7,7 @@ use Rattle.mips_table.specs.declared.inst.Inst.TheVariants.{Mfc0, Mtc0, Eret}
 use Rattle.mips_table.specs.declared.cause.Cause.{Cause}
 use Rattle.mips_table.specs.declared.cause.Cause.TheVariants.{Reset, External, FetchAlign, FetchFault, Illegal, Overflow, Syscall, DataAlign, DataFault}
 use Rattle.mips_table.specs.Decoding.{decoding}
-use Rattle.mips_table.specs.Effect.{next}
+use Rattle.mips_table.specs.Effect.{next_address}
 use Rattle.mips_table.specs.Processor.{Cpu, Access, Move, Ran, Loaded, Stored, Trapped, Privileged, went_on, with_loaded, advanced, is_aligned, move}
 use Rattle.mips_table.specs.Device.{Device, Idle, Environment, POWER, port_read, port_write, disk_counted}
 
@@ -184,7 +184,7 @@ pub data Coming : Type 0 where
 
 -- an instruction with opcode 10 (hexadecimal), in system mode
 abbrev pub privileged : State → ℕ → Option Inst → Coming
-privileged s word (Some (Mfc0 rt special)) = Done (record s { cpu = went_on s.cpu rt (slice_index s.special special) (next s.cpu.pc) })
+privileged s word (Some (Mfc0 rt special)) = Done (record s { cpu = went_on s.cpu rt (slice_index s.special special) (next_address s.cpu.pc) })
 privileged s word (Some (Mtc0 rt special)) = Done (record s { special = slice_set s.special special (flagged special (slice_index s.cpu.regs rt)); cpu = advanced s.cpu })
 privileged s word (Some Eret) = Done (record s { special = left s.special; cpu = record s.cpu { pc = slice_index s.special EPC } })
 privileged s word other = Interrupt s Illegal word s.cpu.pc

@@ -18,8 +18,8 @@ abbrev pub eight_words : List ℕ
 eight_words = encoding (Addiu 1 0 5) ∷ encoding (Sw 1 0 28) ∷ 0 ∷ 0 ∷ 0 ∷ 0 ∷ 0 ∷ 0 ∷ []
 
 -- the code stands at word 0, and is all that is kept
-abbrev pub program : Program
-program = record { code = slice_get storing; kept = slice_get (map encoding storing); words = 8; count = 0 }
+abbrev pub program_at_zero : Program
+program_at_zero = record { code = slice_get storing; kept = slice_get (map encoding storing); words = 8; count = 0 }
 
 -- the physical machine that took its reset
 abbrev pub machine : State
@@ -31,21 +31,21 @@ flat = record { cpu = zero_cpu; words = eight_words }
 
 -- on the physical machine the premises are met, and so word 7 is 5 after two steps, whatever lines are raised
 pub record OnMachine (x : Environment) : Type 0 where
-  pub sound : Sound (on_machine x program)
+  pub sound : Sound (on_machine x program_at_zero)
   pub quiet : Quiet x machine
-  pub holds : MemoryHolds (on_machine x program) machine.memory
-  pub serves : DiskServes x (on_machine x program) machine.device
+  pub holds : MemoryHolds (on_machine x program_at_zero) machine.memory
+  pub serves : DiskServes x (on_machine x program_at_zero) machine.device
   pub end : CodeState
-  pub steps : Steps (on_machine x program) 2 (configuration_of machine) end
+  pub steps : Steps (on_machine x program_at_zero) 2 (configuration_of machine) end
   pub stored : slice_index (run x machine 2).memory 7 ≡ 5
 
 -- on the flat machine the premises are met, and so word 7 is 5 after two steps
 pub record OnFlat : Type 0 where
-  pub sound : Sound (on_flat program)
+  pub sound : Sound (on_flat program_at_zero)
   pub fits : FlatFits flat
-  pub holds : MemoryHolds (on_flat program) flat.words
+  pub holds : MemoryHolds (on_flat program_at_zero) flat.words
   pub end : CodeState
-  pub steps : Steps (on_flat program) 2 (flat_configuration flat) end
+  pub steps : Steps (on_flat program_at_zero) 2 (flat_configuration flat) end
   pub stored : slice_index (flat_run flat 2).words 7 ≡ 5
 
 -- an outside without sectors, in which lines 0 and 3 are raised at step 1

@@ -6,7 +6,7 @@ use Rattle.mips_table.specs.declared.cause.Cause.TheVariants as causes
 use Rattle.mips_table.specs.declared.effect.Effect.{Effect}
 use Rattle.mips_table.specs.declared.effect.Effect.TheVariants.{Set, Wide, Load, Store, Overflow, Call, System}
 use Rattle.mips_table.specs.Decoding.{decoding}
-use Rattle.mips_table.specs.Effect.{next, effect_of}
+use Rattle.mips_table.specs.Effect.{next_address, effect_of}
 
 -- pc, registers 0 to 31 (register 0 is 0), hi and lo
 pub record Cpu : Type 0 where
@@ -44,7 +44,7 @@ with_loaded c register value = record c { regs = write_register c.regs register 
 
 -- the processor at the next instruction
 abbrev pub advanced : Cpu → Cpu
-advanced c = record c { pc = next c.pc }
+advanced c = record c { pc = next_address c.pc }
 
 -- whether an address is that of a word
 abbrev pub is_aligned : ℕ → Bool
@@ -63,8 +63,8 @@ performed a c word (Set register value to) = Ran (went_on c register value to)
 performed a c word (Wide hi lo to) = Ran (record c { pc = to; hi = hi; lo = lo })
 performed a c word (Load register address) = accessed (a.may_load address) causes.DataAlign causes.DataFault address c.pc (Loaded (advanced c) register address)
 performed a c word (Store address value) = accessed (a.may_store address) causes.DataAlign causes.DataFault address c.pc (Stored (advanced c) address value)
-performed a c word Overflow = Trapped causes.Overflow word (next c.pc)
-performed a c word Call = Trapped causes.Syscall word (next c.pc)
+performed a c word Overflow = Trapped causes.Overflow word (next_address c.pc)
+performed a c word Call = Trapped causes.Syscall word (next_address c.pc)
 performed a c word System = Privileged word
 
 -- the effect of an instruction on a processor

@@ -97,55 +97,55 @@ mnemonic_of (Mflo _) = codes "mflo"
 mnemonic_of (Mtlo _) = codes "mtlo"
 
 -- the place of an instruction's row in the table
-abbrev pub row_place : Inst → ℕ
-row_place (Sll _ _ _) = 0
-row_place (Srl _ _ _) = 1
-row_place (Sra _ _ _) = 2
-row_place (Sllv _ _ _) = 3
-row_place (Srlv _ _ _) = 4
-row_place (Srav _ _ _) = 5
-row_place (Jr _) = 6
-row_place (Jalr _ _) = 7
-row_place (Syscall _) = 8
-row_place (Add _ _ _) = 9
-row_place (Addu _ _ _) = 10
-row_place (Sub _ _ _) = 11
-row_place (Subu _ _ _) = 12
-row_place (And _ _ _) = 13
-row_place (Or _ _ _) = 14
-row_place (Xor _ _ _) = 15
-row_place (Nor _ _ _) = 16
-row_place (Slt _ _ _) = 17
-row_place (Sltu _ _ _) = 18
-row_place (Bltz _ _) = 19
-row_place (Bgez _ _) = 20
-row_place (J _) = 21
-row_place (Jal _) = 22
-row_place (Beq _ _ _) = 23
-row_place (Bne _ _ _) = 24
-row_place (Blez _ _) = 25
-row_place (Bgtz _ _) = 26
-row_place (Addi _ _ _) = 27
-row_place (Addiu _ _ _) = 28
-row_place (Slti _ _ _) = 29
-row_place (Sltiu _ _ _) = 30
-row_place (Andi _ _ _) = 31
-row_place (Ori _ _ _) = 32
-row_place (Xori _ _ _) = 33
-row_place (Lui _ _) = 34
-row_place (Mfc0 _ _) = 35
-row_place (Mtc0 _ _) = 36
-row_place Eret = 37
-row_place (Lw _ _ _) = 38
-row_place (Sw _ _ _) = 39
-row_place (Mult _ _) = 40
-row_place (Multu _ _) = 41
-row_place (Div _ _) = 42
-row_place (Divu _ _) = 43
-row_place (Mfhi _) = 44
-row_place (Mthi _) = 45
-row_place (Mflo _) = 46
-row_place (Mtlo _) = 47
+abbrev pub row_index : Inst → ℕ
+row_index (Sll _ _ _) = 0
+row_index (Srl _ _ _) = 1
+row_index (Sra _ _ _) = 2
+row_index (Sllv _ _ _) = 3
+row_index (Srlv _ _ _) = 4
+row_index (Srav _ _ _) = 5
+row_index (Jr _) = 6
+row_index (Jalr _ _) = 7
+row_index (Syscall _) = 8
+row_index (Add _ _ _) = 9
+row_index (Addu _ _ _) = 10
+row_index (Sub _ _ _) = 11
+row_index (Subu _ _ _) = 12
+row_index (And _ _ _) = 13
+row_index (Or _ _ _) = 14
+row_index (Xor _ _ _) = 15
+row_index (Nor _ _ _) = 16
+row_index (Slt _ _ _) = 17
+row_index (Sltu _ _ _) = 18
+row_index (Bltz _ _) = 19
+row_index (Bgez _ _) = 20
+row_index (J _) = 21
+row_index (Jal _) = 22
+row_index (Beq _ _ _) = 23
+row_index (Bne _ _ _) = 24
+row_index (Blez _ _) = 25
+row_index (Bgtz _ _) = 26
+row_index (Addi _ _ _) = 27
+row_index (Addiu _ _ _) = 28
+row_index (Slti _ _ _) = 29
+row_index (Sltiu _ _ _) = 30
+row_index (Andi _ _ _) = 31
+row_index (Ori _ _ _) = 32
+row_index (Xori _ _ _) = 33
+row_index (Lui _ _) = 34
+row_index (Mfc0 _ _) = 35
+row_index (Mtc0 _ _) = 36
+row_index Eret = 37
+row_index (Lw _ _ _) = 38
+row_index (Sw _ _ _) = 39
+row_index (Mult _ _) = 40
+row_index (Multu _ _) = 41
+row_index (Div _ _) = 42
+row_index (Divu _ _) = 43
+row_index (Mfhi _) = 44
+row_index (Mthi _) = 45
+row_index (Mflo _) = 46
+row_index (Mtlo _) = 47
 
 -- whether the words of a row name a special register: those of mfc0 and mtc0 do
 abbrev pub names_special : Row → Bool
@@ -165,5 +165,5 @@ Decodes row = (word : ℕ) → word < 2 ^ 32 → IsWordOf word row → IsSomeAnd
 
 -- the words of the rows are exactly those of the instructions: each instruction has its row, and no row has another word
 pub record AreInstructions (rows : List Row) : Type 0 where
-  pub encoded : (i : Inst) → InRange i → IsSomeAnd (slice_get rows (row_place i)) (HasRow i)
+  pub encoded : (i : Inst) → InRange i → IsSomeAnd (slice_get rows (row_index i)) (HasRow i)
   pub decoded : All Decodes rows

@@ -14,13 +14,13 @@ abbrev pub waiting : List ℕ
 waiting = frame (encoding (Ori 1 0 1) ∷ encoding (Mtc0 1 0) ∷ encoding (J 2) ∷ [])
 
 -- sector 7 is read, with a status before and after the transfer
-abbrev pub reading : List ℕ
-reading = frame (encoding (Addiu 1 0 (2 ^ 16 - 4096)) ∷ encoding (Ori 2 0 7) ∷ encoding (Sw 2 1 0) ∷ encoding (Ori 3 0 1) ∷ encoding (Sw 3 1 4)
+abbrev pub sector_reading : List ℕ
+sector_reading = frame (encoding (Addiu 1 0 (2 ^ 16 - 4096)) ∷ encoding (Ori 2 0 7) ∷ encoding (Sw 2 1 0) ∷ encoding (Ori 3 0 1) ∷ encoding (Sw 3 1 4)
     ∷ encoding (Lw 4 1 4) ∷ encoding (Lw 5 1 4) ∷ encoding (Lw 6 1 4) ∷ encoding (Lw 7 1 4) ∷ encoding (Lw 8 1 (2 ^ 16 - 4096)) ∷ [])
 
 -- the power is switched off
-abbrev pub ending : List ℕ
-ending = frame (encoding (Sw 0 0 (2 ^ 16 - 4088)) ∷ [])
+abbrev pub switching_off : List ℕ
+switching_off = frame (encoding (Sw 0 0 (2 ^ 16 - 4088)) ∷ [])
 
 -- eight sectors, of which the last begins with 99
 abbrev pub sectors : List (List ℕ)
@@ -39,7 +39,7 @@ abbrev pub sampled : Environment
 sampled = record { lines = lines; last = 5; busy = busy; count = 8 }
 
 -- the reset and an external interrupt are taken at steps 0 and 5, and what the special registers and pc are then
-pub record Waited (s : State) : Type 0 where
+pub record HasWaited (s : State) : Type 0 where
   pub special : s.special ≡ 0 ∷ 1 ∷ 1 ∷ 8 ∷ 9 ∷ 0 ∷ 0 ∷ 0 ∷ 0 ∷ []
   pub pc : s.cpu.pc ≡ 0
   pub mask : s.mask ≡ 0

@@ -15,10 +15,10 @@ use Rattle.cvm_words.specs.Bytes.{word, words_of_bytes}
 use Rattle.cvm_words.specs.Reading.{GivesOkUnless}
 use Rattle.object_file.specs.Format.{pieces, spelling, IsInRange}
 use Rattle.object_file.specs.Answer.{IsObjectAnswer, IsOutOfRange, UnlessMemory}
-use Rattle.object_file.specs.Reading.{header_of, object_of, answer}
+use Rattle.object_file.specs.Reading.{header_of, object_of_parts, answer}
 use Rattle.cvm_words.proofs.BytesOfWords.{length-word, length-words, IsBytes, IsBytes-drop, IsBytes-take, Front, front, Made, made}
-use Rattle.object_file.proofs.Steps.{failed}
-use Rattle.object_file.proofs.Answers.{onto, concat-append, length-front_2, length-front_3, length-front_4, length-front_5, answer_by, read_so}
+use Rattle.object_file.proofs.ReadingSteps.{failed}
+use Rattle.object_file.proofs.AnswersAreUnique.{onto, concat-append, length-front_2, length-front_3, length-front_4, length-front_5, answer_by, read_so}
 
 -- an answer that is so of the bytes
 abbrev pub Answered : List ℕ → Type 0
@@ -47,10 +47,10 @@ sized_in_range : (n k : ℕ) → n ≤ 1048576 → k ≤ 4177920 → IsInRange (
 sized_in_range n k few many = some_in_range (replicate n 0) k (omega (arith, length-replicate {A = ℕ} n 0, few)) many
 
 cut : (o : ObjectParts) (fits : IsInRange o) (whole : ℕ) (bytes left : List ℕ) (at : ℕ) → bytes ≡ concat (take whole (pieces o)) ++ left → length left < length (get_or (pieces o) whole []) → at ≡ length (concat (take whole (pieces o))) → Answered bytes
-cut o fits whole bytes left at is short place = (Err (Truncated at), record { object = o; in_range = fits; whole = whole; left = left; spelled = is; short = short; place = place })
+cut o fits whole bytes left at is short position = (Err (Truncated at), record { object = o; in_range = fits; whole = whole; left = left; spelled = is; short = short; position = position })
 
 wrong : (o : ObjectParts) (fits : IsInRange o) (whole : ℕ) (bytes left : List ℕ) (at value : ℕ) → bytes ≡ concat (take whole (pieces o)) ++ (word value ++ left) → value < 2 ^ 32 → IsOutOfRange whole value → at ≡ length (concat (take whole (pieces o))) → Answered bytes
-wrong o fits whole bytes left at value is small out place = (Err (Field at value), record { object = o; in_range = fits; whole = whole; left = left; spelled = is; bits = small; out = out; place = place })
+wrong o fits whole bytes left at value is small out position = (Err (Field at value), record { object = o; in_range = fits; whole = whole; left = left; spelled = is; bits = small; out = out; position = position })
 
 -- the fields of an object whose parts have these sizes
 fields_of : (o : ObjectParts) (n k : ℕ) (rest : List ℕ) → length o.source ≡ n → length o.words ≡ k → codes "CVMO" ++ (word 1 ++ (word n ++ (word k ++ rest))) ≡ onto (take 4 (pieces o)) rest
@@ -59,7 +59,7 @@ fields_of o n k rest e f = ap (λ (m : ℕ). codes "CVMO" ++ (word 1 ++ (word m 
 -- behind the source and the words
 answered_behind_parts : (o : ObjectParts) (fits : IsInRange o) (bytes left : List ℕ) → bytes ≡ spelling o ++ left → Answered bytes
 answered_behind_parts o fits bytes [] is = (Ok o, (fits, is ∙ append-nil (spelling o)))
-answered_behind_parts o fits bytes (b ∷ left) is = (Err (Trailing (length (spelling o))), record { object = o; in_range = fits; left = b ∷ left; spelled = is; more = omega arith; place = refl })
+answered_behind_parts o fits bytes (b ∷ left) is = (Err (Trailing (length (spelling o))), record { object = o; in_range = fits; left = b ∷ left; spelled = is; more = omega arith; position = refl })
 
 -- behind the source
 answered_behind_source : (source : List ℕ) (k : ℕ) (bytes rest : List ℕ) → length source ≤ 1048576 → k ≤ 4177920 → IsBytes rest → bytes ≡ codes "CVMO" ++ (word 1 ++ (word (length source) ++ (word k ++ (source ++ rest)))) → Answered bytes
@@ -190,7 +190,7 @@ abbrev pub found : List ℕ → List ℕ → ObjectParts
 found source words = record { source = source; words = words_of_bytes words }
 
 answer_found : (bytes source words : List ℕ) → header_of bytes ≡ Ok (source, words) → answer bytes ≡ Ok (found source words)
-unfolding object_of
+unfolding object_of_parts
 answer_found bytes source words is = answer_by bytes (Ok (source, words)) is
 
 pub object_so : (bytes : List ℕ) → IsBytes bytes → (source words : List ℕ) → header_of bytes ≡ Ok (source, words) → IsObjectAnswer bytes (Ok (found source words))

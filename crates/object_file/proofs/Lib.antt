@@ -1,3 +1,3 @@
-pub mod Steps
-pub mod Answers
+pub mod ReadingSteps
+pub mod AnswersAreUnique
 pub mod EveryAnswer

@@ -15,7 +15,7 @@ pub record EndsWithin (bytes : List ℕ) (at : ℕ) : Type 0 where
   pub left : List ℕ
   pub spelled : bytes ≡ concat (take whole (pieces object)) ++ left
   pub short : length left < length (slice_index_or (pieces object) whole [])
-  pub place : at ≡ length (concat (take whole (pieces object)))
+  pub position : at ≡ length (concat (take whole (pieces object)))
 
 -- the numbers that may not stand behind so many whole pieces: the form is 1, a source has at most 1,048,576 bytes, and there are at
 -- most 4,177,920 words
@@ -35,7 +35,7 @@ pub record HasWrongField (bytes : List ℕ) (at value : ℕ) : Type 0 where
   pub spelled : bytes ≡ concat (take whole (pieces object)) ++ (word value ++ left)
   pub bits : value < 2 ^ 32
   pub out : IsOutOfRange whole value
-  pub place : at ≡ length (concat (take whole (pieces object)))
+  pub position : at ≡ length (concat (take whole (pieces object)))
 
 -- an object is whole, and bytes follow, from `at` on
 pub record GoesOnAt (bytes : List ℕ) (at : ℕ) : Type 0 where
@@ -44,7 +44,7 @@ pub record GoesOnAt (bytes : List ℕ) (at : ℕ) : Type 0 where
   pub left : List ℕ
   pub spelled : bytes ≡ spelling object ++ left
   pub more : 0 < length left
-  pub place : at ≡ length (spelling object)
+  pub position : at ≡ length (spelling object)
 
 -- what is answered of bytes
 abbrev pub IsObjectAnswer : List ℕ → Result ObjectParts ObjectFault → Type 0
@@ -64,12 +64,12 @@ object_fault_number (Field at value) = 43
 object_fault_number Memory = 44
 
 -- the byte of the file that a fault names
-abbrev pub object_fault_place : ObjectFault → Option ℕ
-object_fault_place Magic = None
-object_fault_place (Truncated at) = Some at
-object_fault_place (Trailing at) = Some at
-object_fault_place (Field at value) = Some at
-object_fault_place Memory = None
+abbrev pub object_fault_position : ObjectFault → Option ℕ
+object_fault_position Magic = None
+object_fault_position (Truncated at) = Some at
+object_fault_position (Trailing at) = Some at
+object_fault_position (Field at value) = Some at
+object_fault_position Memory = None
 
 -- the number that may not stand in a field
 abbrev pub object_fault_value : ObjectFault → Option ℕ

@@ -39,11 +39,11 @@ header_of bytes = do
   parts_at n.0 k.0 k.1
 
 -- the object of two parts
-unfoldable pub object_of : List ℕ × List ℕ → ObjectParts
-object_of parts = record { source = parts.0; words = words_of_bytes parts.1 }
+unfoldable pub object_of_parts : List ℕ × List ℕ → ObjectParts
+object_of_parts parts = record { source = parts.0; words = words_of_bytes parts.1 }
 
 -- the object that bytes spell, or the first fault
 unfoldable pub answer : List ℕ → Result ObjectParts ObjectFault
 answer bytes = do
   parts ← header_of bytes
-  Ok (object_of parts)
+  Ok (object_of_parts parts)

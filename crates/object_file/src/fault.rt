@@ -1,7 +1,7 @@
 // The faults of a file.
 
 ghost use Rattle.std.specs.Prelude.{◌≡◌};
-ghost use Rattle.object_file.specs.Answer.{object_fault_number, object_fault_place, object_fault_value};
+ghost use Rattle.object_file.specs.Answer.{object_fault_number, object_fault_position, object_fault_value};
 ghost use Rattle.object_file.specs.declared.fault.ObjectFault.TheVariants.{Memory};
 
 use std::alloc::AllocError;
@@ -43,7 +43,7 @@ impl ObjectFault {
 
     /// The byte of the file that it names, if any.
     pub fn at(&self) -> Option<u64>
-        ensures { result ≡ object_fault_place self.now }
+        ensures { result ≡ object_fault_position self.now }
     {
         match self {
             ObjectFault::Magic => None,

@@ -7,7 +7,7 @@ ghost use Rattle.object_file.specs.Parts.{ObjectParts};
 ghost use Rattle.object_file.specs.Answer.{IsObjectAnswer, UnlessMemory};
 ghost use Rattle.cvm_words.specs.Bytes.{words_of_bytes};
 ghost use Rattle.cvm_words.specs.Reading.{Comes, GivesOkUnless};
-ghost use Rattle.object_file.specs.Reading.{mark_at, number_at, parts_at, header_of, object_of};
+ghost use Rattle.object_file.specs.Reading.{mark_at, number_at, parts_at, header_of, object_of_parts};
 
 use crate::fault::ObjectFault;
 use crate::object::{MOST_SOURCE, MOST_WORDS, Object};

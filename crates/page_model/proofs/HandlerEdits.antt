@@ -6,8 +6,8 @@ use Rattle.page_model.specs.Edits.{Evicted, PagePlaced, Retargeted, PageSet}
 use Rattle.page_model.specs.Faults.{ByFill, Brought}
 use Rattle.page_model.proofs.Edits.{hits, counted_two, shown_valid}
 use Rattle.page_model.proofs.StepsKeepMemories.{evicted}
-use Rattle.page_model.proofs.Moves.{placed, closed, shares}
-use Rattle.page_model.proofs.Faults.{filled_last, stays_filled, done, passes_on}
+use Rattle.page_model.proofs.MachineMoves.{placed, closed, shares}
+use Rattle.page_model.proofs.AtMostTwoFaults.{filled_last, stays_filled, done, passes_on}
 
 -- the filling case of the handler: the frame at the hand is emptied, and the page is put there with what it shows then
 pub fills : (l : PageLayout) (v : Pages) (q : ℕ) (w : ℕ → ℕ) (a b c : Paged) → PagingInvariant l v a → q < l.pages → v.live q ≡ true → Evicted l a.hand a b → ((i : ℕ) → i < 1024 → w i ≡ shown_word b q i) → PagePlaced l q a.hand w b c → c.hand ≡ next_frame l a.hand

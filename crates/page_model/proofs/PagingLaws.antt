@@ -1,11 +1,11 @@
 -- The laws of several lemmas.
 use Rattle.page_model.specs.Laws.{EntriesAreCounted, EntriesShow, FillsStand, ProtectionStands, StoresStand, AlikesStand, HandledPass}
 use Rattle.page_model.proofs.Edits.{hits, misses, named_by, shown_valid, shown_gone, counted_same, counted_edit, counted_one, counted_two, counted_none}
-use Rattle.page_model.proofs.Moves.{placed, opened, closed, stored}
+use Rattle.page_model.proofs.MachineMoves.{placed, opened, closed, stored}
 use Rattle.page_model.proofs.HandlerEdits.{fills}
-use Rattle.page_model.proofs.Alikes.{stands_on, brought_on, handled_read}
-use Rattle.page_model.proofs.Faults.{done, passes_on, filled_last, stays_filled}
-use Rattle.page_model.proofs.Users.{translated_word}
+use Rattle.page_model.proofs.ViewsAlike.{stands_on, brought_on, handled_read}
+use Rattle.page_model.proofs.AtMostTwoFaults.{done, passes_on, filled_last, stays_filled}
+use Rattle.page_model.proofs.WhatUsersSee.{translated_word}
 
 pub counts_are : EntriesAreCounted
 counts_are = record { same = counted_same; edit = counted_edit; one = counted_one; two = counted_two; none = counted_none }

@@ -4,7 +4,7 @@ use Rattle.std.proofs.lemmas.Bool.{cases_eq}
 use Rattle.page_model.specs.Paging.{PageLayout, IsUserFrame, IsFrame, Protected, MapsTo, naming, counted_entries, Paged, shown_word, Pages, Listed, PagingInvariant, IsFree}
 use Rattle.page_model.specs.Edits.{Edited, Evicted}
 use Rattle.page_model.proofs.Edits.{misses, named_by, shown_valid, shown_gone, validity, counted_edit, counted_none}
-use Rattle.page_model.proofs.Lists.{list_on, count_on}
+use Rattle.page_model.proofs.NamingLists.{list_on, count_on}
 
 -- what another page shows stays, if its entry, its frame and its sector do
 pub shows_on : (l : PageLayout) (a b : Paged) (x i : ℕ) → x < l.pages → b.entry x ≡ a.entry x → ((f : ℕ) → MapsTo (a.entry x) f → b.frame f i ≡ a.frame f i) → (a.entry x / 2048 % 2 ≡ 0 → b.sector x i ≡ a.sector x i) → shown_word b x i ≡ shown_word a x i

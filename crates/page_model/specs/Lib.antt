@@ -1,5 +1,5 @@
 pub mod Paging
-pub mod Places
+pub mod TableLayout
 pub mod Edits
 pub mod Rows
 pub mod Faults

@@ -1,3 +1,3 @@
-mod Basics
+mod SmallOffsets
 mod Registers
-mod Users
+mod UserKept

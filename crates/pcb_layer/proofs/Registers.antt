@@ -9,7 +9,7 @@ use Rattle.masm.specs.Laws.{From}
 use Rattle.masm.proofs.Routines.{from_straight, from_then, from_later}
 use Rattle.pcb_layer.specs.Code.{saved_at, save_registers_code, load_registers_code, save_context_code}
 use Rattle.pcb_layer.specs.Laws.{HasSaveArea, MaySave}
-use Rattle.pcb_layer.proofs.Basics.{put_same, put_other, small_is}
+use Rattle.pcb_layer.proofs.SmallOffsets.{put_same, put_other, small_is}
 
 -- registers 1 to n are saved
 pub record SavedTo (n : ℕ) (c0 : Contents) (d0 : Behind) (c : Contents) (d : Behind) : Type 0 where

@@ -8,7 +8,7 @@ use Rattle.c0_meaning.specs.RunLaws.{HasEnded}
 use Rattle.c0_meaning.specs.UserProgram.{Seen, prog, done}
 use Rattle.cvm_model.specs.Cvm.{first_flat}
 use Rattle.user_c0.specs.Image.{image_words}
-use Rattle.user_c0.specs.Events.{Event, step, call, other, replies, calls, others, untrapped, answer_of, answers}
+use Rattle.user_c0.specs.Events.{Event, step, call, other, replies, others, untrapped, answer_of, answers}
 use Rattle.user_c0.specs.Program.{EndsBy, steps_of}
 use Rattle.user_c0.specs.Users.{UserHasCome, UsersGoOn, IntsAreTold}
 use Rattle.kernel_theorems.specs.UserRuns.{after, told}

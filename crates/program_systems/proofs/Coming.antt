@@ -12,7 +12,7 @@ use Rattle.c0_meaning.specs.RunLaws.{HasEnded}
 use Rattle.cvm_model.specs.Cvm.{first_flat}
 use Rattle.cvm_model.specs.Invariant.{machine_after}
 use Rattle.user_c0.specs.Image.{image_words}
-use Rattle.user_c0.specs.Events.{CALL_CAUSE, Event, step, call, other, replies, calls, others, untrapped, answer_of, answers}
+use Rattle.user_c0.specs.Events.{CALL_CAUSE, Event, step, call, other, replies, call_count, others, untrapped, answer_of, answers}
 use Rattle.user_c0.specs.Program.{EndsBy, steps_of}
 use Rattle.user_c0.specs.Users.{UserHasCome, UsersGoOn, IsProgram, IsTrapCall, ProgramsTrap, TrapsAreKnown, IsDue, ProgramsStay}
 use Rattle.kernel_theorems.specs.UserRuns.{after, IsGoes, TrapsAfter}
@@ -136,7 +136,7 @@ module _ (go : UsersGoOn) (trap : ProgramsTrap) (known : TrapsAreKnown) (u : CUn
         answered = λ x small. go.answered u r.events (after r.steps f) (after (suc r.steps) f) x small r.come e;
       }
 
-  is_call : (a : ℤ) → slice_get (prog u (answers es) n).arguments (calls es) ≡ Some a → IsTrapCall (after r.steps f) a (cause_number r.cause) r.traps.edata
+  is_call : (a : ℤ) → slice_get (prog u (answers es) n).arguments (call_count es) ≡ Some a → IsTrapCall (after r.steps f) a (cause_number r.cause) r.traps.edata
   is_call a has =
       known.next_call u r.events (after r.steps f) (after (suc r.steps) f) r.cause r.traps.edata p r.come r.traps.traps n a
       (subst (λ rs. slice_get (prog u (map answer_of rs) n).arguments (length rs) ≡ Some a) (sym r.replies_are) has)
@@ -144,7 +144,7 @@ module _ (go : UsersGoOn) (trap : ProgramsTrap) (known : TrapsAreKnown) (u : CUn
   ends_next : (cause_number r.cause ≡ 6) × EndsBy (prog u (answers es) n).ending r.traps.edata → EndsNext u es f n
   ends_next is = record { steps = r.steps; few = r.few; traps = called f r.steps r.cause (is_syscall r.cause is.0) r.traps; ends = is.1 }
 
-  is_end : HasEnded (prog u (answers es) n).ending → length (prog u (answers es) n).arguments ≡ calls es → (cause_number r.cause ≡ 6) × EndsBy (prog u (answers es) n).ending r.traps.edata
+  is_end : HasEnded (prog u (answers es) n).ending → length (prog u (answers es) n).arguments ≡ call_count es → (cause_number r.cause ≡ 6) × EndsBy (prog u (answers es) n).ending r.traps.edata
   is_end over count =
       let z = known.next_end u r.events (after r.steps f) (after (suc r.steps) f) r.cause r.traps.edata p r.come r.traps.traps n
       (subst (λ rs. HasEnded (prog u (map answer_of rs) n).ending) (sym r.replies_are) over)
@@ -153,7 +153,7 @@ module _ (go : UsersGoOn) (trap : ProgramsTrap) (known : TrapsAreKnown) (u : CUn
 
 pub calls_come : UsersGoOn → ProgramsCome → ProgramsTrap → TrapsAreKnown → CallsCome
 calls_come go comes trap known u es f n a p c none has =
-    let r = comes u es f n p c none (inl (some_there (prog u (answers es) n).arguments (calls es) a has)) in
+    let r = comes u es f n p c none (inl (some_there (prog u (answers es) n).arguments (call_count es) a has)) in
     calls_next go trap known u es f n p r a (is_call go trap known u es f n p r a has)
 
 pub ends_come : UsersGoOn → ProgramsCome → ProgramsTrap → TrapsAreKnown → EndsCome

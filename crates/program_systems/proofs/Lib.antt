@@ -2,7 +2,7 @@ mod Coming
 mod Dispatches
 pub mod Counting
 pub mod Parts
-pub mod Places
+pub mod BareImages
 mod AdderCounts
 mod Adders
 mod AdderTexts

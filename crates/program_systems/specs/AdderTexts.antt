@@ -6,8 +6,8 @@ use Rattle.kernel_theorems.specs.Text.{IsTextAs}
 use Rattle.program_systems.specs.Adders.{adder}
 
 -- with this limit
-abbrev pub text_of : List ℕ → List ℕ
-text_of limit = by_lines (
+abbrev pub adder_text : List ℕ → List ℕ
+adder_text limit = by_lines (
     codes "int main() {"
     ∷ codes "  int i; int s; int a;"
     ∷ (codes "  while (i < " ++ (limit ++ codes ") { i = i + 1; s = s + i; }"))
@@ -16,10 +16,10 @@ text_of limit = by_lines (
     ∷ codes "}" ∷ [])
 
 abbrev pub text_ten : List ℕ
-text_ten = text_of (codes "10")
+text_ten = adder_text (codes "10")
 
 abbrev pub text_twenty : List ℕ
-text_twenty = text_of (codes "20")
+text_twenty = adder_text (codes "20")
 
 -- A LAW: each is that of its tree
 pub record TextsAreAdders : Type 0 where

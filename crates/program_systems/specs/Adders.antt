@@ -31,7 +31,7 @@ pub record AddersCall : Type 0 where
   pub ten_ends : (x : ℤ) → prog (adder 10) (x ∷ []) 200 ≡ record { arguments = pos 55 ∷ []; ending = done }
   pub twenty_ends : (x : ℤ) → prog (adder 20) (x ∷ []) 400 ≡ record { arguments = pos 210 ∷ []; ending = done }
 
--- A LAW: their images call behind 121 steps and behind 221, and end behind 8 more, whatever they are answered
+-- A LAW: their images call behind 120 steps and behind 220, and end behind 7 more, whatever they are answered
 pub record AddersAreCounted : Type 0 where
-  pub ten : (x : ℕ) → TrapsThrough (first_flat (image_words (adder 10))) (x ∷ []) (121 ∷ 8 ∷ [])
-  pub twenty : (x : ℕ) → TrapsThrough (first_flat (image_words (adder 20))) (x ∷ []) (221 ∷ 8 ∷ [])
+  pub ten : (x : ℕ) → TrapsThrough (first_flat (image_words (adder 10))) (x ∷ []) (120 ∷ 7 ∷ [])
+  pub twenty : (x : ℕ) → TrapsThrough (first_flat (image_words (adder 20))) (x ∷ []) (220 ∷ 7 ∷ [])

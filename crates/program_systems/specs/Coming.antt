@@ -11,7 +11,7 @@ use Rattle.c0_meaning.specs.UserProgram.{prog}
 use Rattle.cvm_model.specs.Primitives.{with_register}
 use Rattle.cvm_model.specs.Cvm.{first_flat}
 use Rattle.user_c0.specs.Image.{image_words}
-use Rattle.user_c0.specs.Events.{CALL_CAUSE, Event, call, replies, calls, others, untrapped, answers}
+use Rattle.user_c0.specs.Events.{CALL_CAUSE, Event, call, replies, call_count, others, untrapped, answers}
 use Rattle.user_c0.specs.Program.{EndsBy, steps_of}
 use Rattle.user_c0.specs.Users.{UserHasCome, IsProgram, IsDue}
 use Rattle.kernel_theorems.specs.UserRuns.{after, TrapsAfter}
@@ -50,7 +50,7 @@ pub record CallsNext (u : CUnit) (es : List Event) (f : Flat) (n : ℕ) (a : ℤ
 -- A LAW: where the next call of a program is known within n units, its machine comes to that call within their steps
 abbrev pub CallsCome : Type 0
 CallsCome = (u : CUnit) (es : List Event) (f : Flat) (n : ℕ) (a : ℤ) → IsProgram u → UserHasCome u es f → others es ≡ []
-    → slice_get (prog u (answers es) n).arguments (calls es) ≡ Some a → CallsNext u es f n a
+    → slice_get (prog u (answers es) n).arguments (call_count es) ≡ Some a → CallsNext u es f n a
 
 -- it gives the system call of its end so
 pub record EndsNext (u : CUnit) (es : List Event) (f : Flat) (n : ℕ) : Type 0 where
@@ -62,7 +62,7 @@ pub record EndsNext (u : CUnit) (es : List Event) (f : Flat) (n : ℕ) : Type 0 
 -- A LAW: where a program is known to end within n units with no further call, its machine comes to its end within their steps
 abbrev pub EndsCome : Type 0
 EndsCome = (u : CUnit) (es : List Event) (f : Flat) (n : ℕ) → IsProgram u → UserHasCome u es f → others es ≡ []
-    → HasEnded (prog u (answers es) n).ending → length (prog u (answers es) n).arguments ≡ calls es → EndsNext u es f n
+    → HasEnded (prog u (answers es) n).ending → length (prog u (answers es) n).arguments ≡ call_count es → EndsNext u es f n
 
 -- a machine calls within so many steps, with this number in register 4
 pub record ComesToCall (f : Flat) (most : ℕ) (a : ℤ) : Type 0 where

@@ -45,6 +45,6 @@ pub record CountsTell : Type 0 where
   pub traps : (f : Flat) (answers steps : List ℕ) → IsCounted f answers steps → TrapsThrough f answers steps
   pub exactly : (f : Flat) (n m : ℕ) (by cause : Cause) → TrapsAfter f n by → TrapsAfter f m cause → m ≡ n
 
--- A LAW: a program's image has nothing of the places of its parts in the source; so it is the image of the tree that its text means
-abbrev pub ImagesIgnorePlaces : Type 0
-ImagesIgnorePlaces = (u : CUnit) → image_words (bare u) ≡ image_words u
+-- A LAW: a program's image has nothing of the spans of its parts in the source; so it is the image of the tree that its text means
+abbrev pub ImagesIgnoreSpans : Type 0
+ImagesIgnoreSpans = (u : CUnit) → image_words (bare u) ≡ image_words u

@@ -6,7 +6,7 @@ ghost use Rattle.program_systems.specs.AdderTexts.{TextsAreAdders};
 ghost use Rattle.program_systems.specs.Adders.{AddersAreCounted, AddersCall};
 ghost use Rattle.program_systems.specs.Asking.{ProgramsAskAndEnd};
 ghost use Rattle.program_systems.specs.Coming.{CallsCome, EndsCome, FirstCallsCome, ProgramsCome};
-ghost use Rattle.program_systems.specs.Counts.{CountsTell, ImagesIgnorePlaces};
+ghost use Rattle.program_systems.specs.Counts.{CountsTell, ImagesIgnoreSpans};
 ghost use Rattle.program_systems.specs.Dispatches.{DispatchesAnswerCalls};
 
 use user_c0::users::{ints_are_told, programs_stay, programs_trap, traps_are_known, users_go_on};
@@ -71,9 +71,9 @@ pub fn counts_tell()
     ensures { CountsTell }
 {}
 
-/// A law: a program's image doesn't depend on the places of its parts in the source, so it is the image of the tree that its text means.
-pub fn images_ignore_places()
-    ensures { ImagesIgnorePlaces }
+/// A law: a program's image doesn't depend on the spans of its parts in the source, so it is the image of the tree that its text means.
+pub fn images_ignore_spans()
+    ensures { ImagesIgnoreSpans }
 {}
 
 /// A law: the two programs call, with 55 and with 210, and then end, whatever they are answered.
@@ -81,7 +81,7 @@ pub fn adders_call()
     ensures { AddersCall }
 {}
 
-/// A law: their images call behind 121 and behind 221 steps, and end behind 8 more.
+/// A law: their images call behind 120 and behind 220 steps, and end behind 7 more.
 pub fn adders_are_counted()
     ensures { AddersAreCounted }
 {

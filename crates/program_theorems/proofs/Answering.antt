@@ -9,7 +9,7 @@ use Rattle.cvm_model.specs.Cvm.{System, Cvm, Status, Running, begin, user_step, 
 use Rattle.cvm_model.specs.Invariant.{Dispatch, made_by, of_begin, of_status, of_turn, dispatches_of}
 use Rattle.cvm_model.specs.Journal.{begin_entries, running_entries, turn_entries, journal}
 use Rattle.user_c0.specs.Events.{SYSCALL, CALL_CAUSE, Event, step, call, other, journal_of}
-use Rattle.user_c0.proofs.Follow.{journal_join}
+use Rattle.user_c0.proofs.ProgramPromises.{journal_join}
 use Rattle.kernel_theorems.proofs.Tests.{by_same}
 use Rattle.program_theorems.specs.Kernels.{IsReply, changed_by, Answers, AnswersUser}
 

@@ -13,10 +13,10 @@ use Rattle.cvm_model.specs.Cvm.{first_flat}
 use Rattle.cvm_model.specs.Journal.{replay}
 use Rattle.kernel_theorems.specs.Text.{MeansProgram}
 use Rattle.user_c0.specs.Image.{image_words}
-use Rattle.user_c0.specs.Events.{SYSCALL, Event, call, other, journal_of, replies, calls, answer_of, answers}
+use Rattle.user_c0.specs.Events.{SYSCALL, Event, call, other, journal_of, replies, call_count, answer_of, answers}
 use Rattle.user_c0.specs.Program.{EndsBy, FollowsMain}
 use Rattle.user_c0.specs.Summing.{summing, SumsAreTold}
-use Rattle.user_c0.proofs.Follow.{replies_join}
+use Rattle.user_c0.proofs.ProgramPromises.{replies_join}
 use Rattle.cvm_shell.specs.Programs.{LinkedPrograms, BootedProgramsRun}
 use Rattle.program_theorems.specs.SummingText.{text}
 use Rattle.program_theorems.specs.Summing.{TellsSum, SumsAreTraced}
@@ -50,24 +50,24 @@ module _ (told : SumsAreTold) (stay : ArgumentsStay) where
         (subst (λ (s : Seen). EndsBy s.ending edata) now h, sym count ∙ ap (λ (s : Seen). length s.arguments) now)
 
     -- how many answers there are
-    answered_so : (es before rest : List Event) → es ≡ before ++ rest → length (answers es) ≡ calls before + calls rest
+    answered_so : (es before rest : List Event) → es ≡ before ++ rest → length (answers es) ≡ call_count before + call_count rest
     answered_so es before rest e = length-map (replies es) answer_of ∙ ap length (ap replies e ∙ replies_join before rest) ∙ length-append (replies before) (replies rest)
 
     pub tells : (es : List Event) → FollowsMain u (first_flat (image_words u)) es → TellsSum u es
     tells es w = record { asks = asks; ends = ends }
       where
         asks : (before after : List Event) (reply : Option ℕ) (f : Flat) → es ≡ before ++ (call reply ∷ after)
-            → replay (first_flat (image_words u)) (journal_of before) ≡ Some f → (calls before ≡ 0) × (signed (slice_index f.cpu.regs 4) ≡ pos 55)
+            → replay (first_flat (image_words u)) (journal_of before) ≡ Some f → (call_count before ≡ 0) × (signed (slice_index f.cpu.regs 4) ≡ pos 55)
         asks before after reply f e r =
             let a = w.asks before after reply f e r in
             let many = answered_so es before (call reply ∷ after) e in
-            call_there (answers es) (calls before) a.0 (signed (slice_index f.cpu.regs 4)) (omega (arith, many)) a.1
+            call_there (answers es) (call_count before) a.0 (signed (slice_index f.cpu.regs 4)) (omega (arith, many)) a.1
 
-        ends : (before after : List Event) (cause edata : ℕ) → es ≡ before ++ (other cause edata ∷ after) → (cause ≡ SYSCALL) × (edata ≡ 0x4c) × (calls before ≡ 1)
+        ends : (before after : List Event) (cause edata : ℕ) → es ≡ before ++ (other cause edata ∷ after) → (cause ≡ SYSCALL) × (edata ≡ 0x4c) × (call_count before ≡ 1)
         ends before after cause edata e =
             let b = w.ends before after cause edata e in
             let many = answered_so es before (other cause edata ∷ after) e in
-            let r = end_there (answers es) (calls before) b.0 edata (omega (arith, many)) b.1 b.3 in
+            let r = end_there (answers es) (call_count before) b.0 edata (omega (arith, many)) b.1 b.3 in
             (b.2, r.0, r.1)
 
 pub traced : MeansProgram text summing → LinkedPrograms → BootedProgramsRun → SumsAreTold → ArgumentsStay → SumsAreTraced

@@ -11,7 +11,7 @@ use Rattle.run_scripts.specs.declared.exit_status.Status.{Status}
 use Rattle.run_scripts.specs.declared.session.Session.{Session}
 use Rattle.cvm_outside.specs.Outside.{Outside}
 use Rattle.run_scripts.specs.Boot.{booted, IsHonest}
-use Rattle.run_scripts.specs.Isolation.{IsolatedTrace, lines_met}
+use Rattle.run_scripts.specs.Isolation.{IsolatedTrace, session_lines}
 
 -- what a dispatch changes of its caller: nothing, or register 2, once
 abbrev pub IsReply : List JournalEntry → Type 0
@@ -36,5 +36,5 @@ pub record KernelsAnswer : Type 0 where
   pub journals : (y : System) (n u : ℕ) (lines : ℕ → ℕ) (k : ℕ) → AnswersUser y n u (dispatches_of y lines n k) → (es : List Event) × (journal y lines n u k ≡ journal_of es)
   pub traces : (words : List (List ℕ)) (session : Session) (u : ℕ) (s : ImageSystem) (rows : Rows) (before : List (List ℕ)) (old new : Outside) (status : Status)
       → IsHonest words session s rows before old new → (a : IsolatedTrace session u s rows before old new status)
-      → AnswersUser (booted s rows) a.units u (dispatches_of (booted s rows) (lines_met session s rows old before) a.units a.turns)
+      → AnswersUser (booted s rows) a.units u (dispatches_of (booted s rows) (session_lines session s rows old before) a.units a.turns)
       → IsAnsweredJournal a.entries

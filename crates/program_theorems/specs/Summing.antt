@@ -10,7 +10,7 @@ use Rattle.kernel_linker.specs.Accept.{ImageSystem}
 use Rattle.cvm_model.specs.Cvm.{first_flat}
 use Rattle.cvm_model.specs.Journal.{replay}
 use Rattle.user_c0.specs.Image.{image_words}
-use Rattle.user_c0.specs.Events.{SYSCALL, Event, call, other, journal_of, IsAnsweredJournal, calls}
+use Rattle.user_c0.specs.Events.{SYSCALL, Event, call, other, journal_of, IsAnsweredJournal, call_count}
 use Rattle.run_scripts.specs.declared.exit_status.Status.{Status}
 use Rattle.run_scripts.specs.declared.session.Session.{Session}
 use Rattle.cvm_outside.specs.Outside.{Outside}
@@ -35,8 +35,8 @@ pub record HasSum (layer : Map → List ℕ → List ℕ) (s : ImageSystem) (u :
 -- what a journal tells of it: its only call is the first one, and finds 55 in register 4; every other trap is its end, after that call
 pub record TellsSum (program : CUnit) (es : List Event) : Type 0 where
   pub asks : (before after : List Event) (reply : Option ℕ) (f : Flat) → es ≡ before ++ (call reply ∷ after)
-      → replay (first_flat (image_words program)) (journal_of before) ≡ Some f → (calls before ≡ 0) × (signed (slice_index f.cpu.regs 4) ≡ pos 55)
-  pub ends : (before after : List Event) (cause edata : ℕ) → es ≡ before ++ (other cause edata ∷ after) → (cause ≡ SYSCALL) × (edata ≡ 0x4c) × (calls before ≡ 1)
+      → replay (first_flat (image_words program)) (journal_of before) ≡ Some f → (call_count before ≡ 0) × (signed (slice_index f.cpu.regs 4) ≡ pos 55)
+  pub ends : (before after : List Event) (cause edata : ℕ) → es ≡ before ++ (other cause edata ∷ after) → (cause ≡ SYSCALL) × (edata ≡ 0x4c) × (call_count before ≡ 1)
 
 -- A LAW: each trace of such a user whose calls its kernel answers prints such a journal
 abbrev pub SumsAreTraced : Type 0

@@ -10,8 +10,8 @@ use Rattle.masm.specs.Laws.{RunsCompose, JumpsLead}
 use Rattle.masm.specs.Standing.{BlockStands}
 use Rattle.cvm_model.specs.Stands.{Site}
 use Rattle.layer_contract.specs.Layer.{Inside, SectorsStay, FramesStay, EndsNamed, NoneIsDue}
-use Rattle.real_layer.specs.Runs.{Standing, Calm, block_world, MakesRun, BlocksRun, Between}
-use Rattle.real_layer.proofs.Shown.{words_of, behind}
+use Rattle.real_layer.specs.Runs.{BlockIsLinked, Calm, block_world, MakesRun, BlocksRun, StaysBetween}
+use Rattle.real_layer.proofs.StandsByFunctions.{words_of, behind}
 use Rattle.real_layer.proofs.EntryToEntry.{IsApart, between_of, no_step, joins}
 
 abbrev pub contents : State → Contents
@@ -21,7 +21,7 @@ contents s = contents_of s.cpu s.special (words_of s)
 pub record Arrives (x : Environment) (y : Site) (most : ℕ) (s : State) (t : CodeState) : Type 0 where
   pub steps : ℕ
   pub within : steps ≤ most
-  pub between : Between x y steps s
+  pub between : StaysBetween x y steps s
   pub there : configuration_of (run x s steps) ≡ t
   pub calm : Calm x y (run x s steps)
   pub size : length (run x s steps).memory ≡ length s.memory
@@ -40,7 +40,7 @@ pub arrived : (x : Environment) (y : Site) (s : State) → Calm x y s → Arrive
 arrived x y s c = record { steps = 0; within = omega arith; between = no_step x y s; there = refl; calm = c; size = refl }
 
 -- a block's run
-pub arrives : BlocksRun → (x : Environment) (y : Site) (s : State) (t : CodeState) (n : ℕ) (is : List Inst) (most : ℕ) → Standing y n is → IsApart n (n + length is) → Calm x y s → t.behind.pending ≡ Idle
+pub arrives : BlocksRun → (x : Environment) (y : Site) (s : State) (t : CodeState) (n : ℕ) (is : List Inst) (most : ℕ) → BlockIsLinked y n is → IsApart n (n + length is) → Calm x y s → t.behind.pending ≡ Idle
     → Reaches (block_world x y s n is) most (configuration_of s) t → Arrives x y most s t
 arrives blocks x y s t n is most at apart c idle r =
     let m : MakesRun x y n is r.steps s t = blocks x y s t n is r.steps at c r.run in
@@ -75,7 +75,7 @@ pub record Enters (x : Environment) (y : Site) (to : ℕ) (s : State) : Type 0 w
 pub stands_at : (s : State) (n : ℕ) → s.cpu.pc ≡ 4 * n → configuration_of s ≡ at_with n (contents s) (behind s)
 stands_at s n e = let at : s.cpu.pc / 4 ≡ n = ap (λ p. p / 4) e ∙ omega arith in ap (λ k. at_with k (contents s) (behind s)) at
 
-pub enters : Below → (x : Environment) (y : Site) (s : State) (n to : ℕ) → Standing y n (J to ∷ []) → Calm x y s → s.cpu.pc ≡ 4 * n → n ≢ to → Sound (block_world x y s n (J to ∷ [])) → Enters x y to s
+pub enters : Below → (x : Environment) (y : Site) (s : State) (n to : ℕ) → BlockIsLinked y n (J to ∷ []) → Calm x y s → s.cpu.pc ≡ 4 * n → n ≢ to → Sound (block_world x y s n (J to ∷ [])) → Enters x y to s
 enters z x y s n to at c pc ne f =
     let w : World = block_world x y s n (J to ∷ []) in
     let t : CodeState = at_with to (contents s) (behind s) in

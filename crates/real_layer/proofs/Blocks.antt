@@ -10,20 +10,20 @@ use Rattle.mips_table.specs.Fits.{NamesSector}
 use Rattle.mips_table.specs.Code.{World, Sound, CodeState, Steps}
 use Rattle.mips_table.specs.Simulation.{configuration_of, Quiet, MemoryHolds, DiskServes, Simulates, MachineSimulates}
 use Rattle.layer_map.specs.Map.{memory_words}
-use Rattle.masm.specs.Standing.{placed, BlockStands}
+use Rattle.masm.specs.Standing.{only_block_at, BlockStands}
 use Rattle.cvm_model.specs.Stands.{Site, is_own}
 use Rattle.layer_contract.specs.Layer.{Inside, command_due, EndsNamed}
-use Rattle.real_layer.specs.Runs.{Standing, Calm, kept_words, block_program, block_world, MakesRun, BlocksRun}
+use Rattle.real_layer.specs.Runs.{BlockIsLinked, Calm, kept_words, block_program, block_world, MakesRun, BlocksRun}
 
 -- the word of an instruction of a placed block
-word_of : (n : ℕ) (is : List Inst) (k : ℕ) (i : Inst) → placed n is k ≡ Some i → n ≤ k → slice_index (map encoding is) (k - n) ≡ encoding i
+word_of : (n : ℕ) (is : List Inst) (k : ℕ) (i : Inst) → only_block_at n is k ≡ Some i → n ≤ k → slice_index (map encoding is) (k - n) ≡ encoding i
 word_of n [] k i e le = absurd (cc)
 word_of n (j ∷ is) k i e le = ⊎_elim
-    (λ z. let here : Some j ≡ Some i = sym (cond-true (k == n) (Some j) (placed (n + 1) is k) (eq-eqb k n z)) ∙ e in
+    (λ z. let here : Some j ≡ Some i = sym (cond-true (k == n) (Some j) (only_block_at (n + 1) is k) (eq-eqb k n z)) ∙ e in
     let same : j ≡ i = cc in
     let at : k - n ≡ 0 = omega arith in
     ap (slice_index (map encoding (j ∷ is))) at ∙ ap encoding same)
-    (λ ne. let there : placed (n + 1) is k ≡ Some i = sym (cond-false (k == n) (Some j) (placed (n + 1) is k) (ne_eqb k n ne)) ∙ e in
+    (λ ne. let there : only_block_at (n + 1) is k ≡ Some i = sym (cond-false (k == n) (Some j) (only_block_at (n + 1) is k) (ne_eqb k n ne)) ∙ e in
     let at : k - n ≡ suc (k - (n + 1)) = omega arith in
     ap (slice_index (map encoding (j ∷ is))) at ∙ word_of (n + 1) is k i there (omega arith))
     (cases_eq k n)
@@ -64,7 +64,7 @@ named_by : (x : Environment) (y : Site) (s after : State) → coming x (latched 
 unfolding command_due
 named_by x y s after e h = subst (λ o. NamesSector (y.map.users * y.map.params.pages) (come_to o).device.pending) (sym e) h
 
-module _ (stands : (n : ℕ) (is : List Inst) → BlockStands n is) (x : Environment) (y : Site) (s : State) (n : ℕ) (is : List Inst) (at : Standing y n is) (c : Calm x y s) where
+module _ (stands : (n : ℕ) (is : List Inst) → BlockStands n is) (x : Environment) (y : Site) (s : State) (n : ℕ) (is : List Inst) (at : BlockIsLinked y n is) (c : Calm x y s) where
   pub sound : Sound (block_world x y s n is)
   sound = record {
     small = c.small;

@@ -8,7 +8,7 @@ use Rattle.cvm_model.specs.Stands.{Site}
 use Rattle.layer_contract.specs.declared.entry.Entry.{Entry}
 use Rattle.layer_contract.specs.declared.entry.Entry.TheVariants.{Dispatch, Primitive, Fault, Leave}
 use Rattle.layer_contract.specs.Layer.{layer_entry, IsEntry, Inside, SectorsStay, FramesStay, EndsNamed, Way}
-use Rattle.real_layer.specs.Runs.{LayerStretch, Between}
+use Rattle.real_layer.specs.Runs.{LayerStretch, StaysBetween}
 
 -- words without an entry: those before the entries, and those between them and the kernel's code
 abbrev pub IsApart : (a b : ℕ) → Type 0
@@ -20,7 +20,7 @@ no_entry a b pc apart low top (Primitive k) is same = ⊎_elim (λ h. absurd (om
 no_entry a b pc apart low top (Fault f) is same = let f0 = is.0 in let f1 = is.1 in ⊎_elim (λ h. absurd (omega arith)) (λ h. let h0 = h.0 in let h1 = h.1 in absurd (omega arith)) apart
 no_entry a b pc apart low top Leave is same = ⊎_elim (λ h. absurd (omega arith)) (λ h. let h0 = h.0 in let h1 = h.1 in absurd (omega arith)) apart
 
-pub between_of : (x : Environment) (y : Site) (a b n : ℕ) (s : State) → IsApart a b → LayerStretch x y a b n s → Between x y n s
+pub between_of : (x : Environment) (y : Site) (a b n : ℕ) (s : State) → IsApart a b → LayerStretch x y a b n s → StaysBetween x y n s
 between_of x y a b n s apart h = record {
   inside = h.inside;
   below = λ j lt. let top = h.to j lt in ⊎_elim (λ e. omega arith) (λ e. let e1 = e.1 in omega arith) apart;
@@ -37,7 +37,7 @@ frames_same m s t e = record { size = ap length e; words = λ k le lt. ap (λ w.
 frames_on : (m : Map) (s u t : State) → FramesStay m s u → FramesStay m u t → FramesStay m s t
 frames_on m s u t a b = record { size = b.size ∙ a.size; words = λ k le lt. b.words k le (subst (λ n. k < n) (sym a.size) lt) ∙ a.words k le lt }
 
-pub no_step : (x : Environment) (y : Site) (s : State) → Between x y 0 s
+pub no_step : (x : Environment) (y : Site) (s : State) → StaysBetween x y 0 s
 no_step x y s = record {
   inside = λ j lt. absurd (omega arith);
   below = λ j lt. absurd (omega arith);
@@ -52,7 +52,7 @@ module _ (sum : (x : Environment) (s : State) (m n : ℕ) → run x s (m + n) �
   later : (m j : ℕ) (s : State) → m ≤ j → run x s j ≡ run x (run x s m) (j - m)
   later m j s le = let e : j ≡ m + (j - m) = omega arith in ap (run x s) e ∙ sum x s m (j - m)
 
-  pub joins : (m n : ℕ) (s : State) → Between x y m s → Between x y n (run x s m) → Between x y (m + n) s
+  pub joins : (m n : ℕ) (s : State) → StaysBetween x y m s → StaysBetween x y n (run x s m) → StaysBetween x y (m + n) s
   joins m n s a b = record {
     inside = λ j lt. ⊎_elim (λ first. a.inside j first) (λ second. subst Inside (sym (later m j s second)) (b.inside (j - m) (omega arith))) (cases_lt j m);
     below = λ j lt. ⊎_elim (λ first. a.below j first) (λ second. subst (λ (z : State). z.cpu.pc < 4 * layer_words) (sym (later m j s second)) (b.below (j - m) (omega arith))) (cases_lt j m);
@@ -65,11 +65,11 @@ module _ (sum : (x : Environment) (s : State) (m n : ℕ) → run x s (m + n) �
   }
 
   -- a way that begins at no entry
-  pub way : (n : ℕ) (s : State) → Between x y n s → Way x y IsEntry n s
+  pub way : (n : ℕ) (s : State) → StaysBetween x y n s → Way x y IsEntry n s
   way n s b = record { inside = b.inside; between = λ j e pos lt is. b.apart j e lt is; sectors = b.sectors; frames = b.frames; named = b.named }
 
   -- a way that begins with one step
-  pub way_from : (n : ℕ) (s : State) → Inside s → SectorsStay y.map s (run x s 1) → FramesStay y.map s (run x s 1) → EndsNamed x y.map s → Between x y n (run x s 1) → Way x y IsEntry (1 + n) s
+  pub way_from : (n : ℕ) (s : State) → Inside s → SectorsStay y.map s (run x s 1) → FramesStay y.map s (run x s 1) → EndsNamed x y.map s → StaysBetween x y n (run x s 1) → Way x y IsEntry (1 + n) s
   way_from n s here stay same names b = record {
     inside = λ j lt. ⊎_elim (λ first. let z : j ≡ 0 = omega arith in subst (λ k. Inside (run x s k)) (sym z) here) (λ second. subst Inside (sym (later 1 j s second)) (b.inside (j - 1) (omega arith))) (cases_lt j 1);
     between = λ j e pos lt is. subst (λ (z : State). z.cpu.pc ≢ layer_entry e) (sym (later 1 j s pos)) (b.apart (j - 1) e (omega arith) is);

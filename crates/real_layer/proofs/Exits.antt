@@ -7,7 +7,7 @@ use Rattle.mips_table.specs.Machine.{State, step, run}
 use Rattle.mips_table.specs.Fits.{StaysFitting}
 use Rattle.mips_table.specs.Code.{Behind, World, Sound, CodeState, at_with, CodeAt, Reaches}
 use Rattle.mips_table.specs.Borders.{PowerEnds}
-use Rattle.masm.specs.Standing.{placed}
+use Rattle.masm.specs.Standing.{only_block_at}
 use Rattle.layer_map.specs.Map.{Map}
 use Rattle.page_model.specs.Laws.{AlikesStand}
 use Rattle.cvm_model.specs.Kernel.{Core, power_of}
@@ -22,12 +22,12 @@ use Rattle.trap_entry.specs.Code.{exit_with_code}
 use Rattle.trap_entry.specs.Laws.{RunComesTo, PassedOver, ExitsWith}
 use Rattle.real_layer.specs.Image.{routine, routine_at, image_site, IsMade}
 use Rattle.real_layer.specs.Premises.{Premises}
-use Rattle.real_layer.specs.Runs.{Standing, Calm, block_world}
-use Rattle.real_layer.proofs.Shown.{Shown, Order, order_of, words_of, behind, word_is, Follows, shown, stood}
+use Rattle.real_layer.specs.Runs.{BlockIsLinked, Calm, block_world}
+use Rattle.real_layer.proofs.StandsByFunctions.{Shown, Order, order_of, words_of, behind, word_is, Follows, shown, stood}
 use Rattle.real_layer.proofs.Blocks.{sound}
-use Rattle.real_layer.proofs.Placed.{listed, linked_length, routine_fits, routine_stands, entry_stands}
+use Rattle.real_layer.proofs.PartsPlaced.{listed, linked_length, routine_fits, routine_stands, entry_stands}
 use Rattle.real_layer.proofs.Arrivals.{Below, Arrives, Enters, contents, arrives, enters}
-use Rattle.real_layer.proofs.Ends.{Left, single, Off, powers, left_words, left_behind, comes_by}
+use Rattle.real_layer.proofs.EndingSteps.{Left, single, Off, powers, left_words, left_behind, comes_by}
 
 -- what the proofs of the ends take from the crates below
 pub record Tools : Type 0 where
@@ -86,7 +86,7 @@ module _ (m : Map) (sizes code : List ℕ) (made : IsMade m sizes code) where
   pub record Routed (k : ℕ) (is : List Inst) (x : Environment) (s : State) : Type 0 where
     pub calm : Calm x y s
     pub enters : Enters x y (routine_at m k) s
-    pub stands : Standing y (routine_at m k) is
+    pub stands : BlockIsLinked y (routine_at m k) is
     pub sound : Sound (block_world x y (run x s 1) (routine_at m k) is)
     pub block : CodeAt (block_world x y (run x s 1) (routine_at m k) is) (routine_at m k) is
     pub low : 2063 ≤ routine_at m k
@@ -97,9 +97,9 @@ module _ (m : Map) (sizes code : List ℕ) (made : IsMade m sizes code) where
       let n : ℕ = routine_at m k in
       let b : Below = z.below in
       let calm : Calm x y s = calm_of x s Running c st i (ap (λ p. p % 4) pc ∙ omega arith) in
-      let here : Standing y (2048 + k) (J n ∷ []) = entry_stands m sizes code made k lt in
+      let here : BlockIsLinked y (2048 + k) (J n ∷ []) = entry_stands m sizes code made k lt in
       let e : Enters x y n s = enters b x y s (2048 + k) n here calm pc (omega arith) (sound b.stands x y s (2048 + k) (J n ∷ []) here calm) in
-      let there : Standing y n is = subst (Standing y n) same (routine_stands m sizes code made k lt) in
+      let there : BlockIsLinked y n is = subst (BlockIsLinked y n) same (routine_stands m sizes code made k lt) in
       record {
         calm = calm;
         enters = e;
@@ -164,7 +164,7 @@ module _ (m : Map) (sizes code : List ℕ) (made : IsMade m sizes code) where
       let inside = (b.stands n is).inside at (Sw rt 0 0xf008) g.stands in
       let from = inside.0 in let to = inside.1 in
       let o : Off z.words b.stands x y s2 n is r.stands a.calm v (step x s2) =
-      powers z.words b.stands x y s2 n is r.stands a.calm ends rt 0xf008 v (ap (placed n is) at2 ∙ g.stands) refl (ap (λ (u : CodeState). u.contents.regs rt) a.there ∙ g.done.1) in
+      powers z.words b.stands x y s2 n is r.stands a.calm ends rt 0xf008 v (ap (only_block_at n is) at2 ∙ g.stands) refl (ap (λ (u : CodeState). u.contents.regs rt) a.there ∙ g.done.1) in
       let off : OffWith x c v (step x s2) =
       off_with z x s c st i s2 (step x s2) v a.calm (a.size ∙ r.enters.size) (ap (λ (u : CodeState). u.contents.memory) a.there ∙ p.memory) (ap (λ (u : CodeState). u.behind) a.there ∙ p.behind) o.off o.stays in
       comes_by b x y s n steps leave_steps u Q r.enters a (single b.none x y n (n + length is) s2 (inr (omega arith, omega arith)) a.calm (omega arith) (omega arith) o.stays.device o.stays.memory) (q (step x s2) off) le

@@ -4,8 +4,8 @@ use Rattle.std.proofs.lemmas.Bool.{cases_lt}
 use Rattle.std.proofs.lemmas.List.{take_at, get_or_append_left, get_or-append_right, get_or-replicate}
 use Rattle.layer_map.specs.Map.{Map, layer_words, block_at}
 use Rattle.layer_contract.specs.Layer.{Linked}
-use Rattle.real_layer.specs.Image.{zero_padded, variables, block_words, blocks, layer_image, IsMade}
-use Rattle.real_layer.proofs.Placed.{parts_length, in_second, in_fourth, filled_word, first_words, second_words, first_size, variables_size, second_size, blocks_size, blocks_length}
+use Rattle.real_layer.specs.Image.{zero_padded, layer_variables, block_words, blocks, layer_image, IsMade}
+use Rattle.real_layer.proofs.PartsPlaced.{parts_length, in_second, in_fourth, filled_word, first_words, second_words, first_size, variables_size, second_size, blocks_size, blocks_length}
 
 -- a control block's words
 block_size : (n : ℕ) → slice_index (block_words n) 32 ≡ n
@@ -31,23 +31,23 @@ blocks_word (n ∷ sizes) (suc u) i lt less =
 
 module _ (m : Map) (sizes code : List ℕ) (made : IsMade m sizes code) where
   image_length : length (layer_image m sizes) ≡ 16384
-  image_length = parts_length (first_words m sizes code made) (zero_padded 1024 (variables m)) (second_words m sizes code made) (zero_padded 4096 (blocks sizes)) [] (first_size m sizes code made) (variables_size m sizes code made) (second_size m sizes code made) (blocks_size m sizes code made)
+  image_length = parts_length (first_words m sizes code made) (zero_padded 1024 (layer_variables m)) (second_words m sizes code made) (zero_padded 4096 (blocks sizes)) [] (first_size m sizes code made) (variables_size m sizes code made) (second_size m sizes code made) (blocks_size m sizes code made)
 
   -- a word of the image, by the words that it makes with nothing behind it
   alone : (k : ℕ) → k < 16384 → slice_index (layer_image m sizes) k ≡ slice_index (layer_image m sizes ++ []) k
   alone k lt = sym (get_or_append_left (layer_image m sizes) [] 0 k (omega (arith, image_length)))
 
-  variable : (i : ℕ) → i < 7 → slice_index (layer_image m sizes) (1024 + i) ≡ slice_index (variables m) i
+  variable : (i : ℕ) → i < 7 → slice_index (layer_image m sizes) (1024 + i) ≡ slice_index (layer_variables m) i
   variable i lt = alone (1024 + i) (omega arith)
-      ∙ in_second (first_words m sizes code made) (zero_padded 1024 (variables m)) (second_words m sizes code made) (zero_padded 4096 (blocks sizes)) [] (first_size m sizes code made) (variables_size m sizes code made) (second_size m sizes code made) (blocks_size m sizes code made) i (omega arith)
-      ∙ filled_word 1024 (variables m) i lt
+      ∙ in_second (first_words m sizes code made) (zero_padded 1024 (layer_variables m)) (second_words m sizes code made) (zero_padded 4096 (blocks sizes)) [] (first_size m sizes code made) (variables_size m sizes code made) (second_size m sizes code made) (blocks_size m sizes code made) i (omega arith)
+      ∙ filled_word 1024 (layer_variables m) i lt
 
   block : (u i : ℕ) → u < length sizes → i < 64 → slice_index (layer_image m sizes) (block_at (u + 1) + i) ≡ slice_index (block_words (slice_index sizes u)) i
   block u i lt less =
       let users = made.users in let few = made.range.users in
       let at : block_at (u + 1) + i ≡ 12288 + (64 * u + i) = omega arith in
       ap (slice_index (layer_image m sizes)) at ∙ alone (12288 + (64 * u + i)) (omega arith)
-      ∙ in_fourth (first_words m sizes code made) (zero_padded 1024 (variables m)) (second_words m sizes code made) (zero_padded 4096 (blocks sizes)) [] (first_size m sizes code made) (variables_size m sizes code made) (second_size m sizes code made) (blocks_size m sizes code made) (64 * u + i) (omega arith)
+      ∙ in_fourth (first_words m sizes code made) (zero_padded 1024 (layer_variables m)) (second_words m sizes code made) (zero_padded 4096 (blocks sizes)) [] (first_size m sizes code made) (variables_size m sizes code made) (second_size m sizes code made) (blocks_size m sizes code made) (64 * u + i) (omega arith)
       ∙ filled_word 4096 (blocks sizes) (64 * u + i) (omega (arith, blocks_length sizes)) ∙ blocks_word sizes u i lt less
 
   pub image_linked : Linked m sizes (layer_image m sizes)

@@ -11,7 +11,7 @@ use Rattle.mips_table.specs.Code.{Contents, Behind, World, Sound}
 use Rattle.masm.specs.Laws.{From, ReturnRuns}
 use Rattle.layer_map.specs.Map.{Map, current_at, tables_at, memory_words}
 use Rattle.page_model.specs.Paging.{MapsTo, PagingInvariant}
-use Rattle.page_model.specs.Places.{page_layout, places_of, paged_view}
+use Rattle.page_model.specs.TableLayout.{page_layout, table_layout, paged_view}
 use Rattle.page_fault.specs.Code.{handle_page_code}
 use Rattle.page_fault.specs.Asked.{MapsAreSited}
 use Rattle.cvm_model.specs.Kernel.{Core}
@@ -29,15 +29,15 @@ use Rattle.cvm_primitives.specs.View.{Fresh}
 use Rattle.real_layer.specs.Image.{returning, routine, routine_at, image_site, IsMade}
 use Rattle.real_layer.specs.Runs.{block_world}
 use Rattle.real_layer.specs.Laws.{NameZeros, GrowsFresh}
-use Rattle.real_layer.proofs.Shown.{Shown, Order, order_of, words_of, behind, word_is, user_fits, pages_agree, shown}
-use Rattle.real_layer.proofs.Placed.{Listed, listed, linked_length}
+use Rattle.real_layer.proofs.StandsByFunctions.{Shown, Order, order_of, words_of, behind, word_is, user_fits, pages_agree, shown}
+use Rattle.real_layer.proofs.PartsPlaced.{Listed, listed, linked_length}
 use Rattle.real_layer.proofs.Arrivals.{contents}
 use Rattle.real_layer.proofs.Exits.{Tools, not_user, Routed, routed}
-use Rattle.real_layer.proofs.Leaving.{signed_pos, signed_neg}
-use Rattle.real_layer.proofs.Keeping.{free_block}
-use Rattle.real_layer.proofs.Interrupting.{pages_same}
-use Rattle.real_layer.proofs.Fitting.{HasWord, within, page_below}
-use Rattle.real_layer.proofs.Calling.{Came, free_past, free_port, own_hand, word_read, as_word, comes_back}
+use Rattle.real_layer.proofs.AfterDispatch.{signed_pos, signed_neg}
+use Rattle.real_layer.proofs.FromUser.{free_block}
+use Rattle.real_layer.proofs.HandlerBegins.{pages_same}
+use Rattle.real_layer.proofs.UsersFit.{HasWord, within, page_below}
+use Rattle.real_layer.proofs.PrimitiveCalls.{Came, free_past, free_port, own_hand, word_read, as_word, comes_back}
 
 -- what is left of a block's run is weakened
 pub from_on : (w : World) (is : List Inst) (n : ℕ) (c : Contents) (d : Behind) (P Q : Contents → Behind → Type 0) → ((c' : Contents) (d' : Behind) → P c' d' → Q c' d') → From w is n c d P → From w is n c d Q
@@ -134,8 +134,8 @@ module _ (m : Map) (sizes code : List ℕ) (made : IsMade m sizes code) where
           let left : LeftByCall users (given y c call) (contents s) (behind s) c1 d1 = subst (λ q. LeftByCall users (prim m.params.pages call users q) (contents s) (behind s) c1 d1) console l in
           record {
             answer = left.answer;
-            pages = subst (λ q. PagingInvariant (page_layout m) (pages_by m.params.pages (given y c call).users) (paged_view (places_of m) c1.memory q)) (sym left.sectors)
-                (pages_same (page_layout m) m.params.pages (paged_view (places_of m) c1.memory (behind s).sectors) users (given y c call).users left.flats
+            pages = subst (λ q. PagingInvariant (page_layout m) (pages_by m.params.pages (given y c call).users) (paged_view (table_layout m) c1.memory q)) (sym left.sectors)
+                (pages_same (page_layout m) m.params.pages (paged_view (table_layout m) c1.memory (behind s).sectors) users (given y c call).users left.flats
                 (pages_agree z.tools.alikes m (pages_by m.params.pages users) (words_of s) c1.memory (behind s).sectors o (λ j why lt. left.words j (⊎_elim (λ e. inl (omega arith)) (λ h. inr (omega arith)) why)) sh.pages));
             blocks = left.blocks;
             log = left.log;
@@ -148,7 +148,7 @@ module _ (m : Map) (sizes code : List ℕ) (made : IsMade m sizes code) where
           }
 
       -- the primitives on memory
-      memory_entered : CallEntered w (places_of m) longest m.params.pages users (contents s) (behind s)
+      memory_entered : CallEntered w (table_layout m) longest m.params.pages users (contents s) (behind s)
       memory_entered =
           let globals = o.globals in let heap = o.heap in let stack = o.stack in let tables = o.tables in let counts = o.counts in let zeros = o.zeros in let most = o.most in
           let count : length users ≡ m.users = st.whole.users in
@@ -184,12 +184,12 @@ module _ (m : Map) (sizes code : List ℕ) (made : IsMade m sizes code) where
             regs = regs;
           }
 
-      memory_came : (call : KernelCall) (c1 : Contents) (d1 : Behind) → CallLeft (places_of m) m.params.pages users (prim m.params.pages call users (console_of (behind s))) (contents s) (behind s) c1 d1 → Came y (given y c call) (contents s) (behind s) c1 d1
+      memory_came : (call : KernelCall) (c1 : Contents) (d1 : Behind) → CallLeft (table_layout m) m.params.pages users (prim m.params.pages call users (console_of (behind s))) (contents s) (behind s) c1 d1 → Came y (given y c call) (contents s) (behind s) c1 d1
       memory_came call c1 d1 l =
           let globals = o.globals in let heap = o.heap in let stack = o.stack in let tables = o.tables in
           let count : length users ≡ m.users = st.whole.users in
           let few : m.users ≤ 64 = made.range.users in
-          let left : CallLeft (places_of m) m.params.pages users (given y c call) (contents s) (behind s) c1 d1 = subst (λ q. CallLeft (places_of m) m.params.pages users (prim m.params.pages call users q) (contents s) (behind s) c1 d1) console l in
+          let left : CallLeft (table_layout m) m.params.pages users (given y c call) (contents s) (behind s) c1 d1 = subst (λ q. CallLeft (table_layout m) m.params.pages users (prim m.params.pages call users q) (contents s) (behind s) c1 d1) console l in
           record {
             answer = left.answer;
             pages = left.stands;
@@ -209,7 +209,7 @@ module _ (m : Map) (sizes code : List ℕ) (made : IsMade m sizes code) where
       few_steps : (g : Given) (n : ℕ) → n ≤ 598 → n + 2 ≤ run_steps m longest (units_of g) g.pages
       few_steps g n le = omega arith
 
-      worth : (g : Given) → call_steps (places_of m) longest g + 2 ≤ run_steps m longest (units_of g) g.pages
+      worth : (g : Given) → call_steps (table_layout m) longest g + 2 ≤ run_steps m longest (units_of g) g.pages
       worth g = omega arith
 
     -- a call by its law: it comes back
@@ -227,21 +227,21 @@ module _ (m : Map) (sizes code : List ℕ) (made : IsMade m sizes code) where
 
     -- with what else its law says of the end
     by_memory : (X : Contents → Type 0) (call other : KernelCall) (k : ℕ) (body : List Inst) → k < 10 → k ≡ primitive_number call → routine m k ≡ returning body → other ≡ call → HasWord call → s.cpu.pc ≡ 4 * (2048 + k) → InCode m (slice_index s.cpu.regs 31)
-        → ((w : World) → Sound w → CallEntered w (places_of m) longest m.params.pages users (contents s) (behind s) → From w body (call_steps (places_of m) longest (prim m.params.pages other users (console_of (behind s)))) (contents s) (behind s)
-        (λ c' d'. CallLeft (places_of m) m.params.pages users (prim m.params.pages other users (console_of (behind s))) (contents s) (behind s) c' d' × X c'))
+        → ((w : World) → Sound w → CallEntered w (table_layout m) longest m.params.pages users (contents s) (behind s) → From w body (call_steps (table_layout m) longest (prim m.params.pages other users (console_of (behind s)))) (contents s) (behind s)
+        (λ c' d'. CallLeft (table_layout m) m.params.pages users (prim m.params.pages other users (console_of (behind s))) (contents s) (behind s) c' d' × X c'))
         → (b : ComesBack x y longest c call s) × X (contents (run x s b.comes.steps))
     by_memory X call other k body lt is listed same word pc back law =
         let r : Routed m sizes code made k (returning body) x s = routed m sizes code made z.tools k (returning body) x s c (omega arith) listed st i pc in
         let w : World = block_world x y (run x s 1) (routine_at m k) (returning body) in
         let g : Given = prim m.params.pages call users (console_of (behind s)) in
         let given_is : g ≡ given y c call = ap (prim m.params.pages call users) console in
-        let f : From w body (call_steps (places_of m) longest g) (contents s) (behind s) (λ c' d'. CallLeft (places_of m) m.params.pages users g (contents s) (behind s) c' d' × X c') =
-        subst (λ q. From w body (call_steps (places_of m) longest (prim m.params.pages q users (console_of (behind s)))) (contents s) (behind s) (λ c' d'. CallLeft (places_of m) m.params.pages users (prim m.params.pages q users (console_of (behind s))) (contents s) (behind s) c' d' × X c')) same
+        let f : From w body (call_steps (table_layout m) longest g) (contents s) (behind s) (λ c' d'. CallLeft (table_layout m) m.params.pages users g (contents s) (behind s) c' d' × X c') =
+        subst (λ q. From w body (call_steps (table_layout m) longest (prim m.params.pages q users (console_of (behind s)))) (contents s) (behind s) (λ c' d'. CallLeft (table_layout m) m.params.pages users (prim m.params.pages q users (console_of (behind s))) (contents s) (behind s) c' d' × X c')) same
         (law w r.sound (memory_entered k (returning body) r)) in
-        let enough : call_steps (places_of m) longest g + 2 ≤ run_steps m longest (units_of (given y c call)) (given y c call).pages =
-        subst (λ q. call_steps (places_of m) longest q + 2 ≤ run_steps m longest (units_of (given y c call)) (given y c call).pages) (sym given_is) (worth k (returning body) r (given y c call)) in
-        comes_back m sizes code made z.tools x s c call st i word X longest k body (call_steps (places_of m) longest g) lt is back pc enough (λ w f. z.returns w f body) r
-        (from_on w body (call_steps (places_of m) longest g) (contents s) (behind s) (λ c' d'. CallLeft (places_of m) m.params.pages users g (contents s) (behind s) c' d' × X c') (λ c' d'. Came y (given y c call) (contents s) (behind s) c' d' × X c') (λ c' d' l. (memory_came k (returning body) r call c' d' l.0, l.1)) f)
+        let enough : call_steps (table_layout m) longest g + 2 ≤ run_steps m longest (units_of (given y c call)) (given y c call).pages =
+        subst (λ q. call_steps (table_layout m) longest q + 2 ≤ run_steps m longest (units_of (given y c call)) (given y c call).pages) (sym given_is) (worth k (returning body) r (given y c call)) in
+        comes_back m sizes code made z.tools x s c call st i word X longest k body (call_steps (table_layout m) longest g) lt is back pc enough (λ w f. z.returns w f body) r
+        (from_on w body (call_steps (table_layout m) longest g) (contents s) (behind s) (λ c' d'. CallLeft (table_layout m) m.params.pages users g (contents s) (behind s) c' d' × X c') (λ c' d'. Came y (given y c call) (contents s) (behind s) c' d' × X c') (λ c' d' l. (memory_came k (returning body) r call c' d' l.0, l.1)) f)
 
     count : length users ≡ m.users
     count = st.whole.users
@@ -250,12 +250,12 @@ module _ (m : Map) (sizes code : List ℕ) (made : IsMade m sizes code) where
     l = listed m
 
     -- a vm_resize comes back, and the pages by which it makes a memory grow name the zero frame
-    resizes : (u n : ℤ) → PrimitiveCalled x y c (VmResize u n) s → (b : ComesBack x y longest c (VmResize u n) s) × Grown (places_of m) m.params.pages users (contents s) (contents (run x s b.comes.steps))
-    resizes u n p = by_memory (Grown (places_of m) m.params.pages users (contents s)) (VmResize u n) (resize_call (contents s)) 3 (vm_resize_code (places_of m) (length users) m.params.pages) (omega arith) refl (l.resize ∙ ap (λ n. returning (vm_resize_code (places_of m) n m.params.pages)) (sym count))
-        (ap₂ VmResize p.arguments.0 p.arguments.1.0) tt p.at.pc p.back (λ w f e. (z.memory w f (places_of m) longest m.params.pages users (contents s) (behind s) e).resize)
+    resizes : (u n : ℤ) → PrimitiveCalled x y c (VmResize u n) s → (b : ComesBack x y longest c (VmResize u n) s) × Grown (table_layout m) m.params.pages users (contents s) (contents (run x s b.comes.steps))
+    resizes u n p = by_memory (Grown (table_layout m) m.params.pages users (contents s)) (VmResize u n) (resize_call (contents s)) 3 (vm_resize_code (table_layout m) (length users) m.params.pages) (omega arith) refl (l.resize ∙ ap (λ n. returning (vm_resize_code (table_layout m) n m.params.pages)) (sym count))
+        (ap₂ VmResize p.arguments.0 p.arguments.1.0) tt p.at.pc p.back (λ w f e. (z.memory w f (table_layout m) longest m.params.pages users (contents s) (behind s) e).resize)
 
     -- those pages, by the user's number and the new size
-    fresh : (u n : ℤ) (p : PrimitiveCalled x y c (VmResize u n) s) → is_good m.params.pages users (VmResize u n) ≡ true → (t : State) → length t.memory ≡ length s.memory → Grown (places_of m) m.params.pages users (contents s) (contents t)
+    fresh : (u n : ℤ) (p : PrimitiveCalled x y c (VmResize u n) s) → is_good m.params.pages users (VmResize u n) ≡ true → (t : State) → length t.memory ≡ length s.memory → Grown (table_layout m) m.params.pages users (contents s) (contents t)
         → NameZeros m (nat_abs u) (pages_of (user_of users (nat_abs u))) (nat_abs n) t
     fresh u n p good t size grown =
         let globals = o.globals in let heap = o.heap in let stack = o.stack in let tables = o.tables in let counts = o.counts in let zeros = o.zeros in
@@ -266,24 +266,24 @@ module _ (m : Map) (sizes code : List ℕ) (made : IsMade m sizes code) where
         let e = within 0 m.params.pages n parts.1 in let most = e.1 in
         let ru : slice_index s.cpu.regs 20 ≡ nat_abs u = abs_is (slice_index s.cpu.regs 20) u 1 (length users) (regs 20) p.arguments.0 parts.0 in
         let rn : slice_index s.cpu.regs 21 ≡ nat_abs n = abs_is (slice_index s.cpu.regs 21) n 0 m.params.pages (regs 21) p.arguments.1.0 parts.1 in
-        let first : Fresh (places_of m) ((slice_index s.cpu.regs 20 - 1) * m.params.pages + pages_of (user_of users (slice_index s.cpu.regs 20))) (slice_index s.cpu.regs 21 - pages_of (user_of users (slice_index s.cpu.regs 20))) (contents t) =
+        let first : Fresh (table_layout m) ((slice_index s.cpu.regs 20 - 1) * m.params.pages + pages_of (user_of users (slice_index s.cpu.regs 20))) (slice_index s.cpu.regs 21 - pages_of (user_of users (slice_index s.cpu.regs 20))) (contents t) =
         grown (ap₂ (λ u n. is_good m.params.pages users (VmResize u n)) p.arguments.0 p.arguments.1.0 ∙ good) in
-        let second : Fresh (places_of m) ((nat_abs u - 1) * m.params.pages + pages_of (user_of users (nat_abs u))) (nat_abs n - pages_of (user_of users (nat_abs u))) (contents t) =
-        subst (λ k. Fresh (places_of m) ((nat_abs u - 1) * m.params.pages + pages_of (user_of users (nat_abs u))) (k - pages_of (user_of users (nat_abs u))) (contents t)) rn
-        (subst (λ k. Fresh (places_of m) ((k - 1) * m.params.pages + pages_of (user_of users k)) (slice_index s.cpu.regs 21 - pages_of (user_of users k)) (contents t)) ru first) in
+        let second : Fresh (table_layout m) ((nat_abs u - 1) * m.params.pages + pages_of (user_of users (nat_abs u))) (nat_abs n - pages_of (user_of users (nat_abs u))) (contents t) =
+        subst (λ k. Fresh (table_layout m) ((nat_abs u - 1) * m.params.pages + pages_of (user_of users (nat_abs u))) (k - pages_of (user_of users (nat_abs u))) (contents t)) rn
+        (subst (λ k. Fresh (table_layout m) ((k - 1) * m.params.pages + pages_of (user_of users k)) (slice_index s.cpu.regs 21 - pages_of (user_of users k)) (contents t)) ru first) in
         λ i from to.
         let inside : (nat_abs u - 1) * m.params.pages + i < m.users * m.params.pages = page_below m.params.pages i (nat_abs u - 1) m.users (omega arith) (omega arith) in
         subst (λ e. MapsTo e (page_layout m).zeros) (word_is t (tables_at m + ((nat_abs u - 1) * m.params.pages + i)) (omega arith)) (second ((nat_abs u - 1) * m.params.pages + i) (omega arith) (omega arith))
 
     -- a call on memory of which no more is asked
     by_memory_alone : (call other : KernelCall) (k : ℕ) (body : List Inst) → k < 10 → k ≡ primitive_number call → routine m k ≡ returning body → other ≡ call → HasWord call → s.cpu.pc ≡ 4 * (2048 + k) → InCode m (slice_index s.cpu.regs 31)
-        → ((w : World) → Sound w → CallEntered w (places_of m) longest m.params.pages users (contents s) (behind s) → From w body (call_steps (places_of m) longest (prim m.params.pages other users (console_of (behind s)))) (contents s) (behind s)
-        (CallLeft (places_of m) m.params.pages users (prim m.params.pages other users (console_of (behind s))) (contents s) (behind s)))
+        → ((w : World) → Sound w → CallEntered w (table_layout m) longest m.params.pages users (contents s) (behind s) → From w body (call_steps (table_layout m) longest (prim m.params.pages other users (console_of (behind s)))) (contents s) (behind s)
+        (CallLeft (table_layout m) m.params.pages users (prim m.params.pages other users (console_of (behind s))) (contents s) (behind s)))
         → ComesBack x y longest c call s
     by_memory_alone call other k body lt is listed same word pc back law =
         (by_memory (λ c'. Unit {0}) call other k body lt is listed same word pc back
-        (λ w f e. from_on w body (call_steps (places_of m) longest (prim m.params.pages other users (console_of (behind s)))) (contents s) (behind s) (CallLeft (places_of m) m.params.pages users (prim m.params.pages other users (console_of (behind s))) (contents s) (behind s))
-        (λ c' d'. CallLeft (places_of m) m.params.pages users (prim m.params.pages other users (console_of (behind s))) (contents s) (behind s) c' d' × Unit {0}) (λ c' d' l. (l, tt)) (law w f e))).0
+        (λ w f e. from_on w body (call_steps (table_layout m) longest (prim m.params.pages other users (console_of (behind s)))) (contents s) (behind s) (CallLeft (table_layout m) m.params.pages users (prim m.params.pages other users (console_of (behind s))) (contents s) (behind s))
+        (λ c' d'. CallLeft (table_layout m) m.params.pages users (prim m.params.pages other users (console_of (behind s))) (contents s) (behind s) c' d' × Unit {0}) (λ c' d' l. (l, tt)) (law w f e))).0
 
     -- each call
     answers : (call : KernelCall) → PrimitiveCalled x y c call s → ComesBack x y longest c call s
@@ -295,17 +295,17 @@ module _ (m : Map) (sizes code : List ℕ) (made : IsMade m sizes code) where
     answers (VmSize u) p = by_registers (VmSize u) (size_call (contents s)) 2 (vm_size_code (length users)) 8 (omega arith) refl (l.size ∙ ap (λ n. returning (vm_size_code n)) (sym count)) (ap VmSize p.arguments.0) tt p.at.pc p.back (omega arith)
         (λ w f e. (z.registers w f m.params.pages users (contents s) (behind s) e).size)
     answers (VmResize u n) p = (resizes u n p).0
-    answers (VmWord u a) p = by_memory_alone (VmWord u a) (word_call (contents s)) 4 (vm_word_code (places_of m) (length users) m.params.pages (handle_page_code (places_of m))) (omega arith) refl
-        (l.word ∙ ap (λ n. returning (vm_word_code (places_of m) n m.params.pages (handle_page_code (places_of m)))) (sym count))
-        (ap₂ VmWord p.arguments.0 p.arguments.1.0) tt p.at.pc p.back (λ w f e. (z.memory w f (places_of m) longest m.params.pages users (contents s) (behind s) e).word)
-    answers (VmPut u a v) p = by_memory_alone (VmPut u a v) (store_call (contents s)) 5 (vm_put_code (places_of m) (length users) m.params.pages (handle_page_code (places_of m))) (omega arith) refl
-        (l.put ∙ ap (λ n. returning (vm_put_code (places_of m) n m.params.pages (handle_page_code (places_of m)))) (sym count))
+    answers (VmWord u a) p = by_memory_alone (VmWord u a) (word_call (contents s)) 4 (vm_word_code (table_layout m) (length users) m.params.pages (handle_page_code (table_layout m))) (omega arith) refl
+        (l.word ∙ ap (λ n. returning (vm_word_code (table_layout m) n m.params.pages (handle_page_code (table_layout m)))) (sym count))
+        (ap₂ VmWord p.arguments.0 p.arguments.1.0) tt p.at.pc p.back (λ w f e. (z.memory w f (table_layout m) longest m.params.pages users (contents s) (behind s) e).word)
+    answers (VmPut u a v) p = by_memory_alone (VmPut u a v) (store_call (contents s)) 5 (vm_put_code (table_layout m) (length users) m.params.pages (handle_page_code (table_layout m))) (omega arith) refl
+        (l.put ∙ ap (λ n. returning (vm_put_code (table_layout m) n m.params.pages (handle_page_code (table_layout m)))) (sym count))
         (put_is _ _ _ u a v p.arguments.0 p.arguments.1.0 p.arguments.1.1.0) (as_word v (slice_index s.cpu.regs 22) (regs 22) p.arguments.1.1.0) p.at.pc p.back
-        (λ w f e. (z.memory w f (places_of m) longest m.params.pages users (contents s) (behind s) e).put)
-    answers (VmCopy u a v b n) p = by_memory_alone (VmCopy u a v b n) (copy_call (contents s)) 6 (vm_copy_code (places_of m) (length users) m.params.pages (handle_page_code (places_of m))) (omega arith) refl
-        (l.copy ∙ ap (λ n. returning (vm_copy_code (places_of m) n m.params.pages (handle_page_code (places_of m)))) (sym count))
+        (λ w f e. (z.memory w f (table_layout m) longest m.params.pages users (contents s) (behind s) e).put)
+    answers (VmCopy u a v b n) p = by_memory_alone (VmCopy u a v b n) (copy_call (contents s)) 6 (vm_copy_code (table_layout m) (length users) m.params.pages (handle_page_code (table_layout m))) (omega arith) refl
+        (l.copy ∙ ap (λ n. returning (vm_copy_code (table_layout m) n m.params.pages (handle_page_code (table_layout m)))) (sym count))
         (copy_is _ _ _ _ _ u a v b n p.arguments.0 p.arguments.1.0 p.arguments.1.1.0 p.arguments.1.1.1.0 p.arguments.1.1.1.1.0) tt p.at.pc p.back
-        (λ w f e. (z.memory w f (places_of m) longest m.params.pages users (contents s) (behind s) e).copy)
+        (λ w f e. (z.memory w f (table_layout m) longest m.params.pages users (contents s) (behind s) e).copy)
     answers (ConPut v) p = by_registers (ConPut v) (put_call (contents s)) 7 con_put_code 3 (omega arith) refl l.con_put (ap ConPut p.arguments.0) tt p.at.pc p.back (omega arith)
         (λ w f e. (z.registers w f m.params.pages users (contents s) (behind s) e).put)
     answers ConGet p = by_registers ConGet ConGet 8 con_get_code 1 (omega arith) refl l.con_get refl tt p.at.pc p.back (omega arith) (λ w f e. (z.registers w f m.params.pages users (contents s) (behind s) e).take)

@@ -6,9 +6,9 @@ use Rattle.mips_table.specs.declared.inst.Inst.{Inst}
 use Rattle.mips_table.specs.declared.inst.Inst.TheVariants.{Sll, Srl, Jr, Addu, Subu, Sltu, J, Beq, Bne, Addiu, Sltiu, Ori, Lui, Mfc0, Mtc0, Eret, Lw, Sw, Multu, Mfhi, Mthi, Mflo, Mtlo}
 use Rattle.mips_table.specs.Encoding.{InRange}
 use Rattle.layer_map.specs.Map.{Map, MapInRange}
-use Rattle.page_model.specs.Places.{Places, places_of}
+use Rattle.page_model.specs.TableLayout.{TableLayout, table_layout}
 use Rattle.real_layer.specs.Image.{interrupt_code, routines, code_joined}
-use Rattle.real_layer.proofs.Shown.{Order, order_of}
+use Rattle.real_layer.proofs.StandsByFunctions.{Order, order_of}
 
 abbrev three : ℕ → ℕ → ℕ → Bool
 three a b c = nat_lt a 32 && (nat_lt b 32 && nat_lt c 32)
@@ -88,7 +88,7 @@ all_in [] e = All-nil InRange
 all_in (i ∷ is) e = let p = and_parts (fits i) (all_fit is) e in All-cons InRange i is (fits_in i p.0) (all_in is p.1)
 
 -- the numbers of a map that instructions hold fit
-pub record Fields (p : Places) (users per : ℕ) : Type 0 where
+pub record Fields (p : TableLayout) (users per : ℕ) : Type 0 where
   pub tables_high : nat_lt (4 * p.tables / 65536) 65536 ≡ true
   pub tables_low : nat_lt (4 * p.tables % 65536) 65536 ≡ true
   pub end_high : nat_lt (4 * (p.tables + p.layout.pages) / 65536) 65536 ≡ true
@@ -106,7 +106,7 @@ pub record Fields (p : Places) (users per : ℕ) : Type 0 where
   pub page_count : nat_lt per 65536 ≡ true
   pub more : nat_lt (per + 1) 65536 ≡ true
 
-pub fields_of : (m : Map) → MapInRange m → Fields (places_of m) m.users m.params.pages
+pub fields_of : (m : Map) → MapInRange m → Fields (table_layout m) m.users m.params.pages
 fields_of m r =
     let o : Order m = order_of m r in
     let globals = o.globals in let heap = o.heap in let stack = o.stack in let tables = o.tables in let counts = o.counts in let zeros = o.zeros in let most = o.most in let whole = o.whole in
@@ -132,9 +132,9 @@ fields_of m r =
 
 pub handler_fits : (m : Map) → MapInRange m → all_fit (interrupt_code m) ≡ true
 unfolding interrupt_code
-handler_fits m r = let h : Fields (places_of m) m.users m.params.pages = fields_of m r in simp (h.tables_high, h.tables_low, h.end_high, h.end_low, h.counts_high, h.counts_low, h.zeros_high, h.zeros_low, h.first_high, h.first_low, h.frames)
+handler_fits m r = let h : Fields (table_layout m) m.users m.params.pages = fields_of m r in simp (h.tables_high, h.tables_low, h.end_high, h.end_low, h.counts_high, h.counts_low, h.zeros_high, h.zeros_low, h.first_high, h.first_low, h.frames)
 
 pub routines_fit : (m : Map) → MapInRange m → all_fit (code_joined (routines m)) ≡ true
 unfolding routines
-routines_fit m r = let h : Fields (places_of m) m.users m.params.pages = fields_of m r in
+routines_fit m r = let h : Fields (table_layout m) m.users m.params.pages = fields_of m r in
     simp (h.tables_high, h.tables_low, h.end_high, h.end_low, h.counts_high, h.counts_low, h.zeros_high, h.zeros_low, h.first_high, h.first_low, h.fresh_high, h.fresh_low, h.frames, h.user_count, h.page_count, h.more)

@@ -8,7 +8,7 @@ use Rattle.mips_table.specs.Encoding.{encoding}
 use Rattle.layer_map.specs.Map.{Map, MapInRange, block_at, current_at, heap_at, layer_words, leave_at, primitives_at, stack_at, variables_end}
 use Rattle.layer_map.specs.declared.places.TheConstants.{BLOCK_SIZE, BLOCK_WORDS}
 use Rattle.masm.specs.declared.registers.TheConstants.{RETURN}
-use Rattle.page_model.specs.Places.{places_of}
+use Rattle.page_model.specs.TableLayout.{table_layout}
 use Rattle.page_fault.specs.Code.{handle_page_code}
 use Rattle.trap_entry.specs.Code.{handler_code, act_on_answer_code, exit_with_code}
 use Rattle.cvm_model.specs.declared.kernel_fault.KernelFault.{KernelFault}
@@ -21,7 +21,7 @@ use Rattle.cvm_primitives.specs.Code.{vm_word_code, vm_put_code, vm_copy_code, v
 
 -- an interrupt goes to word 0, where its handler stands
 unfoldable pub interrupt_code : Map → List Inst
-interrupt_code m = handler_code (places_of m) (handle_page_code (places_of m))
+interrupt_code m = handler_code (table_layout m) (handle_page_code (table_layout m))
 
 -- a primitive goes back to the address in RETURN
 abbrev pub returning : List Inst → List Inst
@@ -35,10 +35,10 @@ fault_exit f = exit_with_code (power_of f)
 -- an answer of `dispatch`.
 unfoldable pub routines : Map → List (List Inst)
 routines m =
-    let p = places_of m in
+    let p = table_layout m in
     let n = m.users in
     let per = m.params.pages in
-    let page = handle_page_code (places_of m) in
+    let page = handle_page_code (table_layout m) in
     returning (vm_get_code n) ∷ returning (vm_set_code n) ∷ returning (vm_size_code n)
     ∷ returning (vm_resize_code p n per) ∷ returning (vm_word_code p n per page) ∷ returning (vm_put_code p n per page) ∷ returning (vm_copy_code p n per page)
     ∷ returning con_put_code ∷ returning con_get_code ∷ returning con_left_code
@@ -71,8 +71,8 @@ zero_padded n words = words ++ replicate (n - length words) 0
 
 -- the layer's variables from the current user on: current user, hand, words used of the heap, its size and first address, first
 -- address of the stack, and the address behind it
-abbrev pub variables : Map → List ℕ
-variables m = 0 ∷ 0 ∷ 0 ∷ m.params.heap ∷ 4 * heap_at m ∷ 4 * stack_at m ∷ 4 * (stack_at m + m.params.stack) ∷ []
+abbrev pub layer_variables : Map → List ℕ
+layer_variables m = 0 ∷ 0 ∷ 0 ∷ m.params.heap ∷ 4 * heap_at m ∷ 4 * stack_at m ∷ 4 * (stack_at m + m.params.stack) ∷ []
 
 -- a control block at load: BLOCK_WORDS words, all 0 but for the size
 abbrev pub block_words : ℕ → List ℕ
@@ -90,7 +90,7 @@ second_code m = entries m ++ code_joined (routines m)
 -- to the control blocks, and these
 abbrev pub layer_image : Map → List ℕ → List ℕ
 layer_image m sizes =
-    zero_padded current_at (map encoding (interrupt_code m)) ++ (zero_padded (variables_end - current_at) (variables m)
+    zero_padded current_at (map encoding (interrupt_code m)) ++ (zero_padded (variables_end - current_at) (layer_variables m)
     ++ (zero_padded (block_at 1 - primitives_at) (map encoding (second_code m)) ++ zero_padded (layer_words - block_at 1) (blocks sizes)))
 
 -- the memory of a layer made for this map and these users, with a kernel's code behind it

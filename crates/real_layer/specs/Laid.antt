@@ -4,7 +4,7 @@ use Rattle.mips_table.specs.declared.inst.Inst.{Inst}
 use Rattle.mips_table.specs.declared.inst.Inst.TheVariants.{J}
 use Rattle.mips_table.specs.Encoding.{encoding}
 use Rattle.layer_map.specs.Map.{Map}
-use Rattle.page_model.specs.Places.{places_of}
+use Rattle.page_model.specs.TableLayout.{table_layout}
 use Rattle.page_fault.specs.Code.{handle_page_code}
 use Rattle.cvm_primitives.specs.Code.{vm_word_code, vm_put_code, vm_copy_code, vm_resize_code}
 use Rattle.cvm_primitives.specs.RegisterCode.{vm_get_code, vm_set_code, vm_size_code}
@@ -28,8 +28,8 @@ register_routines n = returning (vm_get_code n) ∷ returning (vm_set_code n) �
 -- the primitives on memory
 abbrev pub memory_routines : Map → List (List Inst)
 memory_routines m =
-    let p = places_of m in
+    let p = table_layout m in
     let n = m.users in
     let per = m.params.pages in
-    let page = handle_page_code (places_of m) in
+    let page = handle_page_code (table_layout m) in
     returning (vm_resize_code p n per) ∷ returning (vm_word_code p n per page) ∷ returning (vm_put_code p n per page) ∷ returning (vm_copy_code p n per page) ∷ []

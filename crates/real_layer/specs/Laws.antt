@@ -5,7 +5,7 @@ use Rattle.mips_table.specs.Machine.{State, latched, coming, step, run}
 use Rattle.mips_table.specs.Turns.{handled}
 use Rattle.layer_map.specs.Map.{Map, MapInRange}
 use Rattle.page_model.specs.Paging.{MapsTo}
-use Rattle.page_model.specs.Places.{page_layout}
+use Rattle.page_model.specs.TableLayout.{page_layout}
 use Rattle.cvm_model.specs.Kernel.{Core}
 use Rattle.cvm_model.specs.Primitives.{VmResize, user_of, pages_of, is_good}
 use Rattle.cvm_model.specs.Paged.{paged_of}

@@ -8,13 +8,13 @@ use Rattle.mips_table.specs.Machine.{State, run}
 use Rattle.mips_table.specs.Code.{Program, on_machine, World, CodeState, Steps}
 use Rattle.mips_table.specs.Simulation.{configuration_of, Quiet}
 use Rattle.layer_map.specs.Map.{layer_words, memory_words}
-use Rattle.masm.specs.Standing.{placed}
+use Rattle.masm.specs.Standing.{only_block_at}
 use Rattle.cvm_model.specs.Stands.{Site, is_own}
 use Rattle.layer_contract.specs.declared.entry.Entry.{Entry}
 use Rattle.layer_contract.specs.Layer.{layer_entry, IsEntry, Inside, SectorsStay, FramesStay, EndsNamed}
 
 -- a block stands at word n of a site's linked words, all of which stay
-pub record Standing (y : Site) (n : ℕ) (is : List Inst) : Type 0 where
+pub record BlockIsLinked (y : Site) (n : ℕ) (is : List Inst) : Type 0 where
   pub range : All InRange is
   pub inside : n + length is ≤ length y.linked
   pub linked : (i : ℕ) → i < length is → slice_index y.linked (n + i) ≡ slice_index (map encoding is) i
@@ -38,7 +38,7 @@ kept_words y memory k =
 
 -- the block at word n and no other code, over this memory; it may use the sectors of the users' pages
 abbrev pub block_program : Site → (memory : List ℕ) (n : ℕ) → List Inst → Program
-block_program y memory n is = record { code = placed n is; kept = kept_words y memory; words = length memory; count = y.map.users * y.map.params.pages }
+block_program y memory n is = record { code = only_block_at n is; kept = kept_words y memory; words = length memory; count = y.map.users * y.map.params.pages }
 
 -- and its runs from a state
 abbrev pub block_world : Environment → Site → State → ℕ → List Inst → World
@@ -63,12 +63,12 @@ pub record MakesRun (x : Environment) (y : Site) (n : ℕ) (is : List Inst) (ste
 
 -- each run of a block is made so, whatever lines are raised
 abbrev pub BlocksRun : Type 0
-BlocksRun = (x : Environment) (y : Site) (s : State) (t : CodeState) (n : ℕ) (is : List Inst) (steps : ℕ) → Standing y n is → Calm x y s →
+BlocksRun = (x : Environment) (y : Site) (s : State) (t : CodeState) (n : ℕ) (is : List Inst) (steps : ℕ) → BlockIsLinked y n is → Calm x y s →
     Steps (block_world x y s n is) steps (configuration_of s) t → MakesRun x y n is steps s t
 
 -- for n steps the machine is inside, at no entry and below the kernel's code, the sectors past the users' pages and the frames behind the map's last
 -- one stay, and no command is for one of those sectors
-pub record Between (x : Environment) (y : Site) (n : ℕ) (s : State) : Type 0 where
+pub record StaysBetween (x : Environment) (y : Site) (n : ℕ) (s : State) : Type 0 where
   pub inside : (j : ℕ) → j < n → Inside (run x s j)
   pub below : (j : ℕ) → j < n → (run x s j).cpu.pc < 4 * layer_words
   pub apart : (j : ℕ) (e : Entry) → j < n → IsEntry e → (run x s j).cpu.pc ≢ layer_entry e

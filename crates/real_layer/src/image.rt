@@ -2,7 +2,7 @@
 ghost use Rattle.std.specs.Prelude.{◌≡◌, List, [], ◌∷◌, ◌++◌, map as each, replicate, IfOk, OnOk};
 ghost use Rattle.mips_table.specs.declared.inst.Inst.{Inst as Instruction};
 ghost use Rattle.mips_table.specs.Encoding.{encoding};
-ghost use Rattle.real_layer.specs.Image.{interrupt_code, zero_padded, variables, block_words, blocks, second_code, layer_image};
+ghost use Rattle.real_layer.specs.Image.{interrupt_code, zero_padded, layer_variables, block_words, blocks, second_code, layer_image};
 
 use crate::routines::lay_routines;
 use layer_map::{BLOCK_SIZE, BLOCK_WORDS, CURRENT, LAYER_WORDS, Map, PRIMITIVES, VARIABLES_END};
@@ -63,7 +63,7 @@ fn control_blocks(alloc: Global, sizes: &[u32]) -> Result<Vec<u32>, AllocError>
 
 // The layer's variables from the current user on, as they are at load. The further ones are 0 then.
 fn first_variables(map: &Map) -> [u32; 7]
-    ensures { result ≡ variables map.now }
+    ensures { result ≡ layer_variables map.now }
 {
     let params = map.params();
     [

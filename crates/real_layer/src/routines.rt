@@ -2,7 +2,7 @@
 ghost use Rattle.std.specs.Prelude.{◌≡◌, List, [], ◌∷◌, ◌++◌, map as each, IfOk, OnOk};
 ghost use Rattle.mips_table.specs.declared.inst.Inst.{Inst as Instruction};
 ghost use Rattle.mips_table.specs.Encoding.{encoding};
-ghost use Rattle.page_model.specs.Places.{places_of};
+ghost use Rattle.page_model.specs.TableLayout.{table_layout};
 ghost use Rattle.page_fault.specs.Code.{handle_page_code};
 ghost use Rattle.trap_entry.specs.Code.{act_on_answer_code};
 ghost use Rattle.cvm_model.specs.declared.kernel_fault.KernelFault.TheVariants.{NullUse, Bounds, DivZero, StackOut};

@@ -38,13 +38,13 @@ pub struct Desk {
 impl Model for Desk {
     ghost use Rattle.std.specs.Prelude.{◌≤◌};
     ghost use Rattle.mips_machine.specs.Machine.{Held};
-    ghost use Rattle.rom_cases.specs.Desk.{Fits};
+    ghost use Rattle.rom_cases.specs.Desk.{DeskFits};
 
     ghost Value = { Held };
 
     ghost view = { λ d. d.machine };
 
-    ghost invariant = { λ d. Fits 65536 64 d.machine d.disk.sectors × (d.linked ≤ 40) };
+    ghost invariant = { λ d. DeskFits 65536 64 d.machine d.disk.sectors × (d.linked ≤ 40) };
 }
 
 // The word with this number of a sector, as it is before the boot and is to stay.

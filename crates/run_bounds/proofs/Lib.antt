@@ -1,4 +1,4 @@
-pub mod Counts
-pub mod Lines
-pub mod Taken
-pub mod Steps
+pub mod NumbersThatPass
+pub mod FewTurnsHaveLines
+pub mod LinesTaken
+pub mod RunBound

@@ -31,16 +31,16 @@ use Rattle.schedule_file.specs.Schedule.{schedule_of}
 use Rattle.schedule_file.specs.declared.fault.ScheduleFault.{ScheduleFault}
 use Rattle.sample_maker.specs.Parts.{SampleParts as Sampled}
 use Rattle.sample_maker.specs.Sample.{sample_of, user_count, base_of}
-use Rattle.sample_maker.specs.Source.{pattern, filled, filled_byte}
+use Rattle.sample_maker.specs.Source.{pattern, filled_pattern, filled_byte}
 use Rattle.saved_file.specs.declared.fault.SaveFault.{SaveFault}
 use Rattle.saved_file.specs.declared.fault.SaveFault.TheVariants.{SaveTooLarge as FileTooLarge}
 use Rattle.run_scripts.specs.Refusal.{bad_source, Refusal, bad_save}
 use Rattle.system_files.specs.declared.fault.FileFault.{FileFault}
 use Rattle.layer_map.specs.declared.params.Params.{Params}
 use Rattle.run_scripts.specs.declared.session.Session.{Session}
-use Rattle.run_scripts.specs.Command.{Boot, Command, IsCommand, boot, trace, save, resume, compile_user, compile_kernel, compile_program, link, migrate, sample, check, sample_session}
-use Rattle.run_scripts.specs.Check.{Told}
-use Rattle.run_scripts.specs.Plan.{Plan, bad_words, refuses, puts, boots, saves, resumes, prints as tells, Got, long, whole, GotAll, AfterFiles, Answered, BootPlan, accepted_plan, saved_plan, taken_plan, taken_up, most_bytes, AfterText, no_words, assembles, planned, AfterCode, AfterParts, unfit, answered, AfterUsers, AfterParams, AfterSystem, no_object, has_object, linked_plan, renewed_plan, AfterLinking, AfterSource, PartsPlan, told_plan, PlanComesTo, no_command, by_command, AllTold}
+use Rattle.run_scripts.specs.Command.{BootCommand, Command, IsCommand, boot, trace, save, resume, compile_user, compile_kernel, compile_program, link, migrate, sample, check, sample_session}
+use Rattle.run_scripts.specs.Check.{CheckTold}
+use Rattle.run_scripts.specs.Plan.{Plan, bad_words, refuses, puts, boots, saves, resumes, prints as tells, Got, long, whole, GotAll, AfterFiles, Answered, BootPlan, accepted_plan, saved_plan, taken_plan, take_up_plan, most_bytes, AfterText, no_words, assembles, planned, AfterCode, AfterParts, unfit, answered, AfterUsers, AfterParams, AfterSystem, no_object, has_object, linked_plan, renewed_plan, AfterLinking, AfterSource, PartsPlan, told_plan, PlanComesTo, no_command, by_command, AllTold}
 use Rattle.boot_run.specs.SaveRoom.{FILE_ROOM}
 use Rattle.run_scripts.specs.Ends.{IsByte, AreBytes}
 use Rattle.run_scripts.specs.Served.{files_of}
@@ -127,10 +127,10 @@ pattern_bytes : All IsByte pattern
 unfolding pattern
 pattern_bytes = all_below 256 pattern refl
 
-filled_bytes : (users base : ℕ) → users < 2 ^ 64 → base < 2 ^ 64 → (text : List ℕ) → All IsByte text → All IsByte (filled users base text)
+filled_bytes : (users base : ℕ) → users < 2 ^ 64 → base < 2 ^ 64 → (text : List ℕ) → All IsByte text → All IsByte (filled_pattern users base text)
 filled_bytes users base u b [] h = All-nil IsByte
 filled_bytes users base u b (c ∷ text) h =
-    All-append IsByte (filled_byte users base c) (filled users base text) (by (c == 85) (c == 75)) (filled_bytes users base u b text (All-tail IsByte c text h))
+    All-append IsByte (filled_byte users base c) (filled_pattern users base text) (by (c == 85) (c == 75)) (filled_bytes users base u b text (All-tail IsByte c text h))
   where
     by : (x y : Bool) → All IsByte (if x then decimal users else (if y then decimal base else c ∷ []))
     by true y = decimal_bytes users u
@@ -175,7 +175,7 @@ module _ (read : AnswersAreSpelled image_of IsInRange) (s : ImageSystem) (rows :
   bytes_of_told told bytes h e = subst (λ (o : Option (List ℕ)). IfSome o (All IsByte)) e h
 
   module _ (file : List ℕ → Option (List ℕ)) where
-    after_boot : (b : Boot) (session : Session) (p : Plan) → IfSome (file b.image) (All IsByte) → IsSome (file b.image) → IsSome (file b.schedule) → BootPlan layer_image file b session p → RunsThese s rows p → IsAccepted s rows
+    after_boot : (b : BootCommand) (session : Session) (p : Plan) → IfSome (file b.image) (All IsByte) → IsSome (file b.image) → IsSome (file b.schedule) → BootPlan layer_image file b session p → RunsThese s rows p → IsAccepted s rows
     after_boot b session p bytes i j w these =
         let one = got (file b.image) _ p i w these in
         let two = got (file b.schedule) _ p j one.2 these in
@@ -194,7 +194,7 @@ module _ (read : AnswersAreSpelled image_of IsInRange) (s : ImageSystem) (rows :
         by true t = absurd (none_runs s t.system)
         by false t = record { system = t.system; schedule = t.schedule }
 
-    untaken : (bytes : List ℕ) (q : Plan) → RunsThese s rows (taken_up bytes q) → RunsThese s rows q
+    untaken : (bytes : List ℕ) (q : Plan) → RunsThese s rows (take_up_plan bytes q) → RunsThese s rows q
     untaken bytes bad_words t = t
     untaken bytes (refuses r) t = t
     untaken bytes (puts n b) t = t
@@ -259,7 +259,7 @@ module _ (read : AnswersAreSpelled image_of IsInRange) (s : ImageSystem) (rows :
   no_renewed name (Ok i) t = none_runs s t.system
   no_renewed name (Err f) t = none_runs s t.system
 
-  no_told : (told : Told) → RunsThese s rows (told_plan told) → ⊥
+  no_told : (told : CheckTold) → RunsThese s rows (told_plan told) → ⊥
   no_told (Ok text) t = none_runs s t.system
   no_told (Err r) t = none_runs s t.system
 

@@ -8,24 +8,25 @@ use Rattle.boot_turns.specs.declared.answers.View.TheVariants.{Boot, Trace}
 use Rattle.kernel_linker.specs.Accept.{ImageSystem}
 use Rattle.schedule_file.specs.Rows.{Rows}
 use Rattle.run_scripts.specs.declared.exit_status.Status.{Status}
-use Rattle.run_scripts.specs.declared.exit_status.Status.TheVariants.{Done, Words, Refused, KernelFault, StepLimit, Disk, Sink}
+use Rattle.run_scripts.specs.declared.exit_status.Status.TheVariants.{Done, Words, Refused, KernelFault, StepLimit, Disk}
 use Rattle.run_scripts.specs.declared.session.Session.{Session}
 use Rattle.run_scripts.specs.Command.{Command, IsCommand, IsNoCommand, save, resume, save_session}
 use Rattle.run_scripts.specs.Refusal.{Refusal, small_disk, no_such_user, too_long, refusal_status, refusal_text}
 use Rattle.run_scripts.specs.Plan.{Plan, bad_words, refuses, puts, boots, saves, resumes, prints as tells, PlanComesTo, AllTold, IsPlan}
 use Rattle.cvm_outside.specs.ScriptLaws.{ScriptsBlame}
-use Rattle.cvm_outside.specs.Outside.{Outside, Drive}
+use Rattle.cvm_outside.specs.Outside.{Outside, Drive, Output}
 use Rattle.cvm_outside.specs.Script.{Call, Who, TheSink, TheDisk, TheShelf, Performs, done as all_done, breaks, goes_on, Rises, faults_of, disk_calls}
 use Rattle.run_scripts.specs.Boot.{sectors_needed}
 use Rattle.boot_run.specs.RunEnds.{SeesUser}
 use Rattle.boot_run.specs.Closing.{says}
-use Rattle.run_scripts.specs.RunStatus.{IsRunStatus, status_of, power_status}
-use Rattle.run_scripts.specs.Ends.{Does, done, no_file, no_memory, GetsFor, all, up_to, IsNotGot, Wants, behind, within, wants, PlanAsks, SessionAsks, no_user, small, over_told, over_untold, SomeSaveAsks, as_boot, is_saved, load_of, answered}
+use Rattle.boot_run.specs.RunCalls.{end_by}
+use Rattle.run_scripts.specs.RunStatus.{IsRunStatus, status_of_end, power_status}
+use Rattle.run_scripts.specs.Ends.{WasDone, done, no_file, no_memory, GetsFor, all, up_to, IsNotGot, Wants, behind, within, wants, PlanAsks, SessionAsks, no_user, small, over_told, over_untold, SomeSaveAsks, as_boot, is_saved, session_load, answered}
 use Rattle.run_scripts.specs.Served.{files_of, gets}
-use Rattle.run_scripts.specs.Causes.{Counts, NeedsMore, RunsOver, IsRun, IsWork, CausedBy, StatusesAreCaused, WordsAreRefused}
+use Rattle.run_scripts.specs.Causes.{FaultRose, NeedsMore, RunsOver, IsRun, IsWork, CausedBy, StatusesAreCaused, RefusedWith, WordsAreRefused}
 use Rattle.run_scripts.specs.Shapes.{IsRefusal}
-use Rattle.run_scripts.proofs.Joins.{got_keeps}
-use Rattle.run_scripts.proofs.Outcomes.{IsOfFile, Outcome, is_none, is_refused, is_booted, is_saved as saves_so, is_resumed, is_put, is_told, outcome}
+use Rattle.run_scripts.proofs.ResumeScripts.{got_keeps}
+use Rattle.run_scripts.proofs.CommandOutcomes.{IsOfFile, Outcome, is_none, is_refused, is_booted, is_saved as saves_so, is_resumed, is_put, is_told, outcome}
 
 -- ONE PRINT blames the sink alone, and prints its text
 nothing_blames : (old new : Outside) (b : Option Who) → Performs [] old new b → b ≡ None
@@ -58,21 +59,17 @@ pub data Due (p : Plan) (at : Outside) (script : List Call) (due : Status) : Typ
   by_work : IsWork p → due ≡ Done → Due p at script due
   by_run : IsRun p at.disk.size → IsRunStatus due → Due p at script due
 
-of_status : (b : Bool) (st : CvmStatus) → IsRunStatus (status_of b st)
+of_status : (b : Bool) (st : CvmStatus) → IsRunStatus (status_of_end (end_by b st))
 of_status true Running = inl refl
 of_status true Halted = inl refl
 of_status true (Faulted f) = inr (inl refl)
-of_status false Running = inr (inr refl)
-of_status false Halted = inr (inr refl)
-of_status false (Faulted f) = inr (inr refl)
+of_status false st = inr (inr refl)
 
 of_power : (b : Bool) (o : Option ℕ) → IsRunStatus (power_status b o)
 of_power true None = inl refl
-of_power false None = inr (inr refl)
 of_power true (Some zero) = inl refl
-of_power false (Some zero) = inr (inr refl)
 of_power true (Some (suc n)) = inr (inl refl)
-of_power false (Some (suc n)) = inr (inr refl)
+of_power false off = inr (inr refl)
 
 same_due : (a b : Status) → a ≡ b → IsRunStatus b → IsRunStatus a
 same_due a b e h = subst IsRunStatus (sym e) h
@@ -105,7 +102,7 @@ due_of words p at script due (is_booted c is l session s rows) a =
     session_due p session s rows at _ _ (λ u v. refl) (λ n. n) (λ r. r) (λ ss x st w. same_due st _ w.status_is (of_status _ _)) (λ x st w. w.3) script due a
 due_of words p at script due (saves_so c is s rows) a =
     session_due p (save_session c) s rows at _ _ (λ u v. absurd (no_view u v)) (λ n. n) (λ r. r) (λ ss x st w. same_due st _ w.status_is (of_status _ _))
-    (λ x st w. some_save c.file (load_of (save_session c) s rows) x st w) script due a
+    (λ x st w. some_save c.file (session_load (save_session c) s rows) x st w) script due a
 due_of words p at script due (is_resumed c is s rows machine) a =
     session_due p (save_session c) s rows at _ _ (λ u v. absurd (no_view u v)) (λ n. n) (λ r. r) (λ ss x st w. same_due st _ w.status_is (of_power _ _)) (λ x st w. w.3) script due a
 due_of words p at script due (is_put c is name bytes e) a = by_work tt a.1
@@ -124,7 +121,7 @@ pub run_due : (p : Plan) (at : Outside) (script : List Call) (due : Status) → 
 run_due (boots session s rows) at script due runs a =
     session_ends session s rows at _ _ (λ ss x st w. same_due st _ w.status_is (of_status _ _)) (λ x st w. w.3) script due runs a
 run_due (saves session s rows name) at script due runs a =
-    session_ends session s rows at _ _ (λ ss x st w. same_due st _ w.status_is (of_status _ _)) (λ x st w. some_save name (load_of session s rows) x st w) script due runs a
+    session_ends session s rows at _ _ (λ ss x st w. same_due st _ w.status_is (of_status _ _)) (λ x st w. some_save name (session_load session s rows) x st w) script due runs a
 run_due (resumes session s rows words) at script due runs a =
     session_ends session s rows at _ _ (λ ss x st w. same_due st _ w.status_is (of_power _ _)) (λ x st w. w.3) script due runs a
 run_due bad_words at script due runs a = absurd runs
@@ -152,7 +149,7 @@ refusal_quiet words p at script due (is_refused c is r f) a h = ap disk_calls a.
 refusal_quiet words p at script due (is_booted c is l session s rows) a h =
     session_quiet session s rows at _ _ (λ ss x st w. same_due st _ w.status_is (of_status _ _)) (λ x st w. w.3) script due a h
 refusal_quiet words p at script due (saves_so c is s rows) a h =
-    session_quiet (save_session c) s rows at _ _ (λ ss x st w. same_due st _ w.status_is (of_status _ _)) (λ x st w. some_save c.file (load_of (save_session c) s rows) x st w) script due a h
+    session_quiet (save_session c) s rows at _ _ (λ ss x st w. same_due st _ w.status_is (of_status _ _)) (λ x st w. some_save c.file (session_load (save_session c) s rows) x st w) script due a h
 refusal_quiet words p at script due (is_resumed c is s rows machine) a h =
     session_quiet (save_session c) s rows at _ _ (λ ss x st w. same_due st _ w.status_is (of_power _ _)) (λ x st w. w.3) script due a h
 refusal_quiet words p at script due (is_put c is name bytes e) a h = ap disk_calls a.0
@@ -160,20 +157,20 @@ refusal_quiet words p at script due (is_told c is text) a h = ap disk_calls a.0
 
 -- COUNTS of what was got and done
 module _ (blame : ScriptsBlame) where
-  counts_both : (got script : List Call) (old mid new : Outside) (b : Option Who) → Performs got old mid None → Performs script mid new b → Counts b old new
+  counts_both : (got script : List Call) (old mid new : Outside) (b : Option Who) → Performs got old mid None → Performs script mid new b → FaultRose b old new
   counts_both got script old mid new b p q w =
       let g = blame got old mid None p w in
       let h = blame script mid new b q w in
       let e : faults_of w mid ≡ faults_of w old = g.same (λ x. cc) in
       record { rose = λ i. subst (λ (n : ℕ). Rises n (faults_of w new)) e (h.rose i); same = λ ne. h.same ne ∙ e }
 
-  pub of_done : (words : List (List ℕ)) (old new : Outside) (status : Status) (h : Does words old new status) → Counts h.blamed old new
+  pub of_done : (words : List (List ℕ)) (old new : Outside) (status : Status) (h : WasDone words old new status) → FaultRose h.blamed old new
   of_done words old new status h = counts_both h.got h.script old h.mid new h.blamed h.files h.performs
 
-  pub of_no_file : (names : List (List ℕ)) (old new : Outside) → IsNotGot names old new → Counts (Some TheShelf) old new
+  pub of_no_file : (names : List (List ℕ)) (old new : Outside) → IsNotGot names old new → FaultRose (Some TheShelf) old new
   of_no_file names old new g w = blame (gets (g.before ++ g.name ∷ [])) old new (Some TheShelf) g.performs w
 
-  of_wants : (names : List (List ℕ)) (old new : Outside) → Wants names old new → Counts None old new
+  of_wants : (names : List (List ℕ)) (old new : Outside) → Wants names old new → FaultRose None old new
   of_wants names old new (behind made rest e s p t) w = blame (gets made) old new None p w
   of_wants names old new (within made rest name mid e short p (wants f c t s k)) w =
       let g = blame (gets made) old mid None p w in
@@ -186,7 +183,7 @@ module _ (blame : ScriptsBlame) where
       same TheShelf = c
 
   -- what is left of the outside by the gets
-  pub mid_disk : (words : List (List ℕ)) (old new : Outside) (status : Status) (h : Does words old new status) → (h.mid.disk ≡ old.disk) × (h.mid.sink ≡ old.sink)
+  pub mid_disk : (words : List (List ℕ)) (old new : Outside) (status : Status) (h : WasDone words old new status) → (h.mid.disk ≡ old.disk) × (h.mid.sink ≡ old.sink)
   mid_disk words old new status h = by h.plan refl (outcome words old.shelf.file h.plan h.is_plan.comes)
     where
       kept : (c : Command) → IsCommand words c → (h.mid.disk ≡ old.disk) × (h.mid.sink ≡ old.sink)
@@ -205,6 +202,25 @@ module _ (blame : ScriptsBlame) where
       by p e (is_resumed c is s rows machine) = kept (resume c) is
       by p e (is_put c is name bytes x) = kept c is
       by p e (is_told c is text) = kept c is
+
+  -- a row that is all that is done: it was printed, or the sink failed in it
+  pub row_told : (words : List (List ℕ)) (old new : Outside) (status : Status) (h : WasDone words old new status) (due : Status) (row : List ℕ) → h.script ≡ says row → h.due ≡ due →
+      RefusedWith due row old new status
+  row_told words old new status h due row s d = ends h.blamed (h.status_is ∙ ap (λ (x : Status). answered x h.blamed) d) (says_blames row h.mid new h.blamed told) told
+    where
+      told : Performs (says row) h.mid new h.blamed
+      told = subst (λ (a : List Call). Performs a h.mid new h.blamed) s h.performs
+
+      sink : h.mid.sink ≡ old.sink
+      sink = (mid_disk words old new status h).1
+
+      ends : (b : Option Who) → status ≡ answered due b → (b ≡ None) ⊎ (b ≡ Some TheSink) → Performs (says row) h.mid new b → RefusedWith due row old new status
+      ends b e (inl n) q =
+          let z = subst (λ (x : Option Who). Performs (says row) h.mid new x) n q in
+          inl (e ∙ ap (answered due) n, says_printed row h.mid new z ∙ ap (λ (o : Output). append_known o.text row) sink)
+      ends b e (inr n) q =
+          let z = subst (λ (x : Option Who). Performs (says row) h.mid new x) n q in
+          inr (e ∙ ap (answered due) n, subst (λ (o : Output). AppendsPart o.text new.sink.text row) sink (says_part row h.mid new z))
 
   long_taken : (file : List ℕ → Option (List ℕ)) (names : List (List ℕ)) (taken : ℕ) (p : Plan) (got : List Call) → p ≡ refuses too_long → GetsFor file names taken p got → taken ≡ TOO_LONG
   long_taken file names taken p got e (all _ n t) = absurd (n e)
@@ -226,7 +242,7 @@ module _ (blame : ScriptsBlame) where
       of_plan p e (is_put c is name bytes x) i = long_taken _ _ _ _ _ i (h.gets.0 c is)
       of_plan p e (is_told c is text) i = long_taken _ _ _ _ _ i (h.gets.0 c is)
 
-      refusal_free : (r : Refusal) → IsOfFile r → h.plan ≡ refuses r → Counts None old new → CausedBy (refusal_status r) words old new
+      refusal_free : (r : Refusal) → IsOfFile r → h.plan ≡ refuses r → FaultRose None old new → CausedBy (refusal_status r) words old new
       refusal_free too_long f e k =
           inr (k, record { is_plan = subst (IsPlan (AllTold words old.shelf.file) (PlanComesTo words old.shelf.file)) e h.is_plan; taken = of_plan h.plan refl o e })
       refusal_free (small_disk need have) f e k = absurd f
@@ -236,7 +252,7 @@ module _ (blame : ScriptsBlame) where
       run_is : IsRun h.plan h.mid.disk.size → IsRun h.plan old.disk.size
       run_is r = subst (λ (x : Drive). IsRun h.plan x.size) (mid_disk words old new status h).0 r
 
-      free : Due h.plan h.mid h.script h.due → Counts None old new → CausedBy h.due words old new
+      free : Due h.plan h.mid h.script h.due → FaultRose None old new → CausedBy h.due words old new
       free (by_words e d s) k = subst (λ (st : Status). CausedBy st words old new) (sym d) k
       free (by_refusal r f e d s) k = subst (λ (st : Status). CausedBy st words old new) (sym d) (refusal_free r f e k)
       free (by_user session s rows u e v n d x) k = subst (λ (st : Status). CausedBy st words old new) (sym d) k
@@ -247,7 +263,7 @@ module _ (blame : ScriptsBlame) where
       free (by_run r (inr (inl d))) k = subst (λ (st : Status). CausedBy st words old new) (sym d) (k, record { plan = h.plan; is_plan = h.is_plan; is = run_is r })
       free (by_run r (inr (inr d))) k = subst (λ (st : Status). CausedBy st words old new) (sym d) (k, record { plan = h.plan; is_plan = h.is_plan; is = run_is r })
 
-      by : (b : Option Who) → status ≡ answered h.due b → Counts b old new → CausedBy status words old new
+      by : (b : Option Who) → status ≡ answered h.due b → FaultRose b old new → CausedBy status words old new
       by None e k = subst (λ (st : Status). CausedBy st words old new) (sym e) (free (due_of words h.plan h.mid h.script h.due o h.asks) k)
       by (Some TheSink) e k = subst (λ (st : Status). CausedBy st words old new) (sym e) k
       by (Some TheDisk) e k = subst (λ (st : Status). CausedBy st words old new) (sym e) (inl k)
@@ -256,7 +272,7 @@ module _ (blame : ScriptsBlame) where
   statuses_are_caused words old new status (no_memory c is w) = of_wants (files_of c) old new w
 
   -- THE STATUS of words, files and disks
-  pub done_due : (words : List (List ℕ)) (old new : Outside) (status : Status) (h : Does words old new status) → Due h.plan h.mid h.script h.due
+  pub done_due : (words : List (List ℕ)) (old new : Outside) (status : Status) (h : WasDone words old new status) → Due h.plan h.mid h.script h.due
   done_due words old new status h = due_of words h.plan h.mid h.script h.due (outcome words old.shelf.file h.plan h.is_plan.comes) h.asks
 
   pub words_are_refused : WordsAreRefused
@@ -292,15 +308,8 @@ module _ (blame : ScriptsBlame) where
       only (Some TheDisk) e = absurd (cc)
       only (Some TheShelf) e = absurd (cc)
 
-      said : h.script ≡ says (codes "bad words\n") → h.due ≡ Words → (status ≡ Words) ⊎ (status ≡ Sink)
-      said s d = ends h.blamed h.status_is (says_blames (codes "bad words\n") h.mid new h.blamed (subst (λ (a : List Call). Performs a h.mid new h.blamed) s h.performs))
-        where
-          ends : (b : Option Who) → status ≡ answered h.due b → (b ≡ None) ⊎ (b ≡ Some TheSink) → (status ≡ Words) ⊎ (status ≡ Sink)
-          ends b e (inl n) = inl (e ∙ ap (answered h.due) n ∙ d)
-          ends b e (inr n) = inr (e ∙ ap (answered h.due) n)
-
-      so : Outcome words h.plan → IsNoCommand words → (status ≡ Words) ⊎ (status ≡ Sink)
-      so o n = of_due (done_due words old new status h)
+      so : Outcome words h.plan → IsNoCommand words → RefusedWith Words (codes "bad words\n") old new status
+      so o n = let a = subst (λ (p : Plan). PlanAsks p h.mid h.script h.due) (none h.plan o) h.asks in row_told words old new status h Words (codes "bad words\n") a.0 a.1
         where
           none : (p : Plan) → Outcome words p → p ≡ bad_words
           none p (is_none m) = refl
@@ -310,8 +319,5 @@ module _ (blame : ScriptsBlame) where
           none p (is_resumed c is s rows machine) = absurd (n (resume c) is)
           none p (is_put c is name bytes x) = absurd (n c is)
           none p (is_told c is text) = absurd (n c is)
-
-          of_due : Due h.plan h.mid h.script h.due → (status ≡ Words) ⊎ (status ≡ Sink)
-          of_due d = let a = subst (λ (p : Plan). PlanAsks p h.mid h.script h.due) (none h.plan o) h.asks in said a.0 a.1
   words_are_refused words old new status (no_file c is g) = record { only = λ e. absurd (cc); so = λ n. absurd (n c is) }
   words_are_refused words old new status (no_memory c is w) = record { only = λ e. absurd (cc); so = λ n. absurd (n c is) }

@@ -6,11 +6,12 @@ use Rattle.run_scripts.specs.declared.exit_status.Status.{Status}
 use Rattle.run_scripts.specs.declared.exit_status.Status.TheVariants.{Done, KernelFault}
 use Rattle.boot_turns.specs.Runs.{Run, Past, has_ended, steps_made, cvm_at}
 use Rattle.run_scripts.specs.SessionRuns.{run_of}
-use Rattle.run_scripts.specs.RunStatus.{run_status, status_of}
-use Rattle.run_scripts.proofs.ByRuns.{Headlines, ItGoesOn, RunsComplete}
-use Rattle.run_scripts.specs.Keys.{RunLaws}
+use Rattle.boot_run.specs.RunCalls.{end_by}
+use Rattle.run_scripts.specs.RunStatus.{run_status, status_of_end}
+use Rattle.run_scripts.proofs.PromisesByRuns.{Headlines, ItGoesOn, RunsComplete}
+use Rattle.run_scripts.specs.Keys.{LawsOfRuns}
 
-pub it_goes_on : RunLaws → ItGoesOn
+pub it_goes_on : LawsOfRuns → ItGoesOn
 it_goes_on law words plan session s rows before old a =
     let w = law.start words plan session s rows before old a in
     let m = law.machines s.unit _ _ _ w.late _ w.starts in
@@ -18,7 +19,7 @@ it_goes_on law words plan session s rows before old a =
     λ k c is. let h = m.goes_on k c is in let le = h.2 in (h.0, h.1, omega (arith, le, less))
 
 -- a run that came to its end is done, or its kernel faulted
-ended_status : (st : CvmStatus) → (status_of true st ≡ Done) ⊎ (status_of true st ≡ KernelFault)
+ended_status : (st : CvmStatus) → (status_of_end (end_by true st) ≡ Done) ⊎ (status_of_end (end_by true st) ≡ KernelFault)
 ended_status Running = inl refl
 ended_status Halted = inl refl
 ended_status (Faulted f) = inr refl
@@ -31,11 +32,11 @@ ended_within count r t e le =
 
 pub run_done : TurnLaws → (r : Run) (p : Past) (t : ℕ) → IsTurnEnd r.around r.first r.turns t → t ≤ r.steps → (run_status r p ≡ Done) ⊎ (run_status r p ≡ KernelFault)
 run_done count r p t e le =
-    let at : run_status r p ≡ status_of true (cvm_at r p (steps_made r)).status = ap (λ (b : Bool). status_of b (cvm_at r p (steps_made r)).status) (ended_within count r t e le) in
+    let at : run_status r p ≡ status_of_end (end_by true (cvm_at r p (steps_made r)).status) =
+    ap (λ (b : Bool). status_of_end (end_by b (cvm_at r p (steps_made r)).status)) (ended_within count r t e le) in
     by (ended_status (cvm_at r p (steps_made r)).status) at
   where
-    by : (status_of true (cvm_at r p (steps_made r)).status ≡ Done) ⊎ (status_of true (cvm_at r p (steps_made r)).status ≡ KernelFault) →
-        run_status r p ≡ status_of true (cvm_at r p (steps_made r)).status → (run_status r p ≡ Done) ⊎ (run_status r p ≡ KernelFault)
+    by : {x : Status} → (x ≡ Done) ⊎ (x ≡ KernelFault) → run_status r p ≡ x → (run_status r p ≡ Done) ⊎ (run_status r p ≡ KernelFault)
     by (inl d) at = inl (at ∙ d)
     by (inr d) at = inr (at ∙ d)
 

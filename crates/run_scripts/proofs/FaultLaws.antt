@@ -21,30 +21,30 @@ use Rattle.run_scripts.specs.Command.{Command, IsSave, Save, save, save_session}
 use Rattle.run_scripts.specs.Plan.{Plan, boots, saves}
 use Rattle.boot_turns.specs.Runs.{Run, Past, IsPast, state_at, steps_made, has_ended, cvm_at}
 use Rattle.run_scripts.specs.Boot.{booted, sectors_needed}
-use Rattle.run_scripts.specs.Saves.{saved_row}
 use Rattle.run_scripts.specs.SessionRuns.{run_of, pages_loaded}
-use Rattle.boot_run.specs.RunScript.{run_script}
-use Rattle.run_scripts.specs.RunStatus.{run_status, status_of, save_script, saved_bytes}
-use Rattle.run_scripts.specs.Ends.{Does, done, no_file, no_memory, IsNotGot, RunAsks, SomeRunAsks, SomeSaveAsks, load_of, answered}
+use Rattle.boot_run.specs.RunScript.{run_script, saved_row, saved_bytes, save_script}
+use Rattle.boot_run.specs.RunCalls.{end_by}
+use Rattle.run_scripts.specs.RunStatus.{run_status, status_of_end}
+use Rattle.run_scripts.specs.Ends.{WasDone, done, no_file, no_memory, IsNotGot, RunAsks, SomeRunAsks, SomeSaveAsks, session_load, answered}
 use Rattle.run_scripts.specs.Served.{files_of}
 use Rattle.run_scripts.specs.Headline.{Asked, ended_text, text_at, whole_text}
 use Rattle.run_scripts.specs.Faults.{PrintedWithin, Stand, CalledBy, AfterSink, AfterBy, After, FaultsLeave, IsLeft, IsReported, UnsavedBy, SaveFaultsLeave}
-use Rattle.run_scripts.proofs.Behind.{load_calls_disk, stand_behind, sink_behind, disk_behind}
-use Rattle.run_scripts.proofs.Broken.{AllOf}
-use Rattle.run_scripts.proofs.Calls.{plain_load}
+use Rattle.run_scripts.proofs.SectorsBehind.{load_calls_disk, stand_behind, sink_behind, disk_behind}
+use Rattle.run_scripts.proofs.BrokenScripts.{AllOf}
+use Rattle.run_scripts.proofs.ScriptCalls.{plain_load}
 use Rattle.run_scripts.proofs.Causes.{mid_disk}
-use Rattle.run_scripts.proofs.Joins.{got_keeps}
+use Rattle.run_scripts.proofs.ResumeScripts.{got_keeps}
 use Rattle.run_scripts.specs.Keys.{ScriptLaws}
-use Rattle.run_scripts.proofs.Keys.{known, loads_store_the_start, sectors_behind_stay}
+use Rattle.run_scripts.proofs.RunKeys.{known, loads_store_the_start, sectors_behind_stay}
 use Rattle.run_scripts.proofs.OneCommand.{one_command}
-use Rattle.run_scripts.proofs.Pasts.{Known}
+use Rattle.run_scripts.proofs.RowsAlongRuns.{Known}
 use Rattle.run_scripts.proofs.Refusals.{plan_asks}
 use Rattle.run_scripts.proofs.Reports.{run_tells}
 use Rattle.run_scripts.proofs.RunFaults.{Stands, more, broken_within, run_unsaid, run_undone}
 use Rattle.run_scripts.proofs.SaveFaults.{save_undone, save_unsaid, save_unput, save_spent}
 use Rattle.run_scripts.proofs.Saves.{told_asks}
 use Rattle.run_scripts.proofs.StoredRuns.{run_leaves}
-use Rattle.run_scripts.proofs.Tells.{Tells, quiet_load}
+use Rattle.run_scripts.proofs.ScriptsTell.{Tells, quiet_load}
 
 -- the statuses of a boot, and those of a save
 abbrev pub Three : Status → Type 0
@@ -82,13 +82,11 @@ not_faulted (inr (inr (inl e))) = cc
 not_faulted (inr (inr (inr e))) = cc
 
 -- where no call failed the steps were spent
-pub spent : (b : Bool) (st : CvmStatus) (status : Status) → status ≡ status_of b st → Four status → (b ≡ false) × (status ≡ StepLimit)
+pub spent : (b : Bool) (st : CvmStatus) (status : Status) → status ≡ status_of_end (end_by b st) → Four status → (b ≡ false) × (status ≡ StepLimit)
 spent true Running status e w = absurd (not_done (subst Four e w))
 spent true Halted status e w = absurd (not_done (subst Four e w))
 spent true (Faulted f) status e w = absurd (not_faulted (subst Four e w))
-spent false Running status e w = (refl, e)
-spent false Halted status e w = (refl, e)
-spent false (Faulted f) status e w = (refl, e)
+spent false st status e w = (refl, e)
 
 -- the calls that were made of the disk, by the script that was performed
 called_by : ScriptsBlame → ScriptsCount → (old mid : Outside) → mid.disk ≡ old.disk → (a : List Call) (at : Outside) → Performs a mid at None → CalledBy a old at
@@ -117,13 +115,13 @@ module _ (law : ScriptLaws) (words : List (List ℕ)) (plan : Plan) (session : S
     are = ap (λ (d : Drive). d.sectors) disk ∙ a.sectors;
   }
 
-  mute : Tells (load_of session s rows) [] []
+  mute : Tells (session_load session s rows) [] []
   mute = quiet_load (pages_loaded session.start (booted s rows)) (sectors_needed session s rows) []
 
-  calls_disk : AllOf TheDisk (load_of session s rows)
+  calls_disk : AllOf TheDisk (session_load session s rows)
   calls_disk = load_calls_disk (pages_loaded session.start (booted s rows)) (sectors_needed session s rows)
 
-  makes : sectors_after (load_of session s rows) before ≡ r.first.device.sectors
+  makes : sectors_after (session_load session s rows) before ≡ r.first.device.sectors
   makes = loads_store_the_start law.runs words plan session s rows before old a
 
   stays : (t : ℕ) → t ≤ steps_made r → Beyond held before (state_at r t).device.sectors
@@ -137,21 +135,21 @@ module _ (law : ScriptLaws) (words : List (List ℕ)) (plan : Plan) (session : S
 
   -- A BOOT
   module _ (p : Past) (is : IsPast r p) where
-    tells : Tells (run_script r (load_of session s rows) p) [] (whole_text r p)
-    tells = run_tells r k p is (load_of session s rows) mute
+    tells : Tells (run_script r (session_load session s rows) p) [] (whole_text r p)
+    tells = run_tells r k p is (session_load session s rows) mute
 
-    begun : (new : Outside) (whom : Who) → Performs (run_script r (load_of session s rows) p) mid new (Some whom) → PrintedWithin old new [] (whole_text r p)
+    begun : (new : Outside) (whom : Who) → Performs (run_script r (session_load session s rows) p) mid new (Some whom) → PrintedWithin old new [] (whole_text r p)
     begun new whom q =
-        broken_within law.tell law.store old (run_script r (load_of session s rows) p) mid new whom [] [] [] (whole_text r p) [] (whole_text r p) stood.text_is q tells refl (sym (append-nil (whole_text r p)))
+        broken_within law.tell law.store old (run_script r (session_load session s rows) p) mid new whom [] [] [] (whole_text r p) [] (whole_text r p) stood.text_is q tells refl (sym (append-nil (whole_text r p)))
 
     abbrev Left : Status → Outside → Type 0
-    Left status new = After r held before new (λ o. AfterBy (has_ended r ≡ true) status r (load_of session s rows) o old new × PrintedWithin old new [] (whole_text r o))
+    Left status new = After r held before new (λ o. AfterBy (has_ended r ≡ true) status r (session_load session s rows) o old new × PrintedWithin old new [] (whole_text r o))
 
-    boot_left : (new : Outside) (status due : Status) (b : Option Who) → due ≡ run_status r p → status ≡ answered due b → Three status → Performs (run_script r (load_of session s rows) p) mid new b → Left status new
+    boot_left : (new : Outside) (status due : Status) (b : Option Who) → due ≡ run_status r p → status ≡ answered due b → Three status → Performs (run_script r (session_load session s rows) p) mid new b → Left status new
     boot_left new status due None d e w q =
         let h = spent (has_ended r) (cvm_at r p (steps_made r)).status status (e ∙ d) (of_three status w) in
-        let all = more law.tell law.store old (run_script r (load_of session s rows) p) mid new [] (whole_text r p) before (state_at r (steps_made r)).device.sectors stood q tells
-        (run_leaves law.runs.count r (load_of session s rows) p before makes) in
+        let all = more law.tell law.store old (run_script r (session_load session s rows) p) mid new [] (whole_text r p) before (state_at r (steps_made r)).device.sectors stood q tells
+        (run_leaves law.runs.count r (session_load session s rows) p before makes) in
         let text : whole_text r p ≡ text_at r p (steps_made r) = ap (λ (b : Bool). if b then ended_text r.view r p (steps_made r) else text_at r p (steps_made r)) h.0 in
         subst (λ (st : Status). Left st new) (sym h.1)
         (record {
@@ -164,11 +162,11 @@ module _ (law : ScriptLaws) (words : List (List ℕ)) (plan : Plan) (session : S
           behind = stand_behind law.runs.count r held before stays (steps_made r) new (omega arith) all.are;
         })
     boot_left new status due (Some TheSink) d e w q =
-        let h = run_unsaid r k p is law.tell law.store old (load_of session s rows) before calls_disk mute makes mid new stood q in
+        let h = run_unsaid r k p is law.tell law.store old (session_load session s rows) before calls_disk mute makes mid new stood q in
         subst (λ (st : Status). Left st new) (sym e)
         (record { past = p; is_past = is; by = (h, begun new TheSink q); behind = sink_behind law.runs.count r held before stays (has_ended r ≡ true) p old new h })
     boot_left new status due (Some TheDisk) d e w q =
-        let h = run_undone r k p is law.tell law.store old (load_of session s rows) before calls_disk mute makes mid new (called_by law.blame law.calls old mid disk) disk stood q in
+        let h = run_undone r k p is law.tell law.store old (session_load session s rows) before calls_disk mute makes mid new (called_by law.blame law.calls old mid disk) disk stood q in
         subst (λ (st : Status). Left st new) (sym e)
         (record {
           past = p;
@@ -181,7 +179,7 @@ module _ (law : ScriptLaws) (words : List (List ℕ)) (plan : Plan) (session : S
 pub faults_leave : ScriptLaws → FaultsLeave
 faults_leave law words session s rows before old new status a w (done _ h) =
     let two = mid_disk law.blame words old new status h in
-    let t = told_asks words (boots session s rows) session s rows before old h.mid (λ size ss. RunAsks (run_of session s rows size ss) (λ r. run_script r (load_of session s rows))) (SomeRunAsks (load_of session s rows))
+    let t = told_asks words (boots session s rows) session s rows before old h.mid (λ size ss. RunAsks (run_of session s rows size ss) (λ r. run_script r (session_load session s rows))) (SomeRunAsks (session_load session s rows))
     h.script h.due a two.0 (plan_asks law.blame words old new status h (boots session s rows) a.files a.is_plan) in
     boot_left law words (boots session s rows) session s rows before old h.mid a two.0 two.1 t.past t.is_past new status h.due h.blamed t.status_is h.status_is w
     (subst (λ (c : List Call). Performs c h.mid new h.blamed) t.script_is h.performs)
@@ -190,7 +188,7 @@ faults_leave law words session s rows before old new status a w (no_memory c i m
 
 -- A SAVE
 module _ (law : ScriptLaws) (words : List (List ℕ)) (c : Save) (s : ImageSystem) (rows : Rows) (before : List (List ℕ)) (old new : Outside) (status : Status)
-    (is : IsSave words c) (a : Asked words (saves (save_session c) s rows c.file) (save_session c) s rows before old) (w : Four status) (h : Does words old new status) where
+    (is : IsSave words c) (a : Asked words (saves (save_session c) s rows c.file) (save_session c) s rows before old) (w : Four status) (h : WasDone words old new status) where
   abbrev session : Session
   session = save_session c
 
@@ -203,15 +201,15 @@ module _ (law : ScriptLaws) (words : List (List ℕ)) (c : Save) (s : ImageSyste
   files : (n : List ℕ) → h.mid.shelf.file n ≡ old.shelf.file n
   files = (got_keeps _ _ _ _ _ old h.mid (h.gets.0 (save c) is) h.files).files
 
-  t : RunAsks (run_of (save_session c) s rows old.disk.size before) (λ r. save_script c.file r (load_of (save_session c) s rows)) h.script h.due
-  t = told_asks words (saves (save_session c) s rows c.file) (save_session c) s rows before old h.mid (λ size ss. RunAsks (run_of (save_session c) s rows size ss) (λ r. save_script c.file r (load_of (save_session c) s rows)))
-      (SomeSaveAsks c.file (load_of (save_session c) s rows)) h.script h.due a two.0 (plan_asks law.blame words old new status h (saves (save_session c) s rows c.file) a.files a.is_plan)
+  t : RunAsks (run_of (save_session c) s rows old.disk.size before) (λ r. save_script c.file r (session_load (save_session c) s rows)) h.script h.due
+  t = told_asks words (saves (save_session c) s rows c.file) (save_session c) s rows before old h.mid (λ size ss. RunAsks (run_of (save_session c) s rows size ss) (λ r. save_script c.file r (session_load (save_session c) s rows)))
+      (SomeSaveAsks c.file (session_load (save_session c) s rows)) h.script h.due a two.0 (plan_asks law.blame words old new status h (saves (save_session c) s rows c.file) a.files a.is_plan)
 
   abbrev plan : Plan
   plan = saves (save_session c) s rows c.file
 
   abbrev load : List Call
-  load = load_of (save_session c) s rows
+  load = session_load (save_session c) s rows
 
   known_run : Known run
   known_run = k law words plan session s rows before old h.mid a two.0 two.1

@@ -13,14 +13,14 @@ use Rattle.cvm_model.specs.Primitives.{user_of}
 use Rattle.boot_turns.specs.Trace.{Shown, entries_so_far}
 use Rattle.boot_turns.specs.declared.answers.View.{View}
 use Rattle.boot_turns.specs.Runs.{Run, IsShown, lines_met, steps_made, turns_at}
-use Rattle.boot_turns.specs.TurnEnds.{first_of}
+use Rattle.boot_turns.specs.TurnEnds.{first_user_machine}
 use Rattle.boot_run.specs.RunEnds.{SeesUser}
 use Rattle.run_scripts.specs.SessionRuns.{run_of}
-use Rattle.run_scripts.proofs.ByRuns.{TracesIsolate}
-use Rattle.run_scripts.specs.Keys.{RunLaws}
-use Rattle.run_scripts.proofs.Keys.{known}
+use Rattle.run_scripts.proofs.PromisesByRuns.{TracesIsolate}
+use Rattle.run_scripts.specs.Keys.{LawsOfRuns}
+use Rattle.run_scripts.proofs.RunKeys.{known}
 use Rattle.boot_run.proofs.AbstractRuns.{not_ended}
-use Rattle.run_scripts.proofs.Pasts.{Known}
+use Rattle.run_scripts.proofs.RowsAlongRuns.{Known}
 
 true_false : (b : Bool) → b ≡ true → b ≡ false → ⊥
 true_false b e f = cc
@@ -54,7 +54,7 @@ all_there x s k (suc t) e before = by (rests (run x s (suc t))) refl
         let there : (complete x s t == k) ≡ true = ap (λ (n : ℕ). n == k) (sym same) ∙ here in
         absurd (true_false (is_end x s k t) (or_left (complete x s t == k) (not (is_on (run x s t))) there) (before t (omega arith)))
 
-pub traces_isolate : RunLaws → ReplaysUsers → UnitsReplay → TracesIsolate
+pub traces_isolate : LawsOfRuns → ReplaysUsers → UnitsReplay → TracesIsolate
 traces_isolate law isolated replays words session s rows before old u p a v is e =
     let r : Run = run_of session s rows old.disk.size before in
     let k : Known r = known law words _ session s rows before old a in
@@ -75,6 +75,6 @@ traces_isolate law isolated replays words session s rows before old u p a v is e
       turns_are = refl;
       within = h.cvm ∙ ap (λ (c : Cvm). Some c) same;
       journal_is = shown;
-      replayed = ap (replay (first_of r.system u)) shown ∙ isolated r.system (lines_met r) h.units n u h.past (replays s.unit s.params) see.0 see.1 h.cvm
+      replayed = ap (replay (first_user_machine r.system u)) shown ∙ isolated r.system (lines_met r) h.units n u h.past (replays s.unit s.params) see.0 see.1 h.cvm
           ∙ ap (λ (c : Cvm). Some (user_of c.core.users u)) same;
     }

@@ -5,14 +5,14 @@ use Rattle.std.proofs.lemmas.List.Elements.{All-nil, All-head, All-tail, All-app
 use Rattle.mips_table.specs.Encoding.{encoding, InRange}
 use Rattle.mips_table.specs.Fits.{IsWord}
 use Rattle.layer_map.specs.Map.{Map, MapInRange, heap_at, stack_at}
-use Rattle.real_layer.specs.Image.{interrupt_code, routines, code_joined, entries, zero_padded, variables, block_words, blocks, second_code, layer_image}
+use Rattle.real_layer.specs.Image.{interrupt_code, routines, code_joined, entries, zero_padded, layer_variables, block_words, blocks, second_code, layer_image}
 use Rattle.real_layer.proofs.Ranges.{all_fit, all_in, handler_fits, routines_fit}
 use Rattle.user_c0.proofs.WordRange.{code_words}
 
 filled_words : (n : ℕ) (ws : List ℕ) → All IsWord ws → All IsWord (zero_padded n ws)
 filled_words n ws h = All-append IsWord ws (replicate (n - length ws) 0) h (All-replicate IsWord (n - length ws) 0 (omega arith))
 
-variable_words : (m : Map) → MapInRange m → All IsWord (variables m)
+variable_words : (m : Map) → MapInRange m → All IsWord (layer_variables m)
 variable_words m r =
     let code = r.code_words in
     let globals = r.global_words in
@@ -21,7 +21,7 @@ variable_words m r =
     let first : IsWord (4 * heap_at m) = omega (arith, code, globals) in
     let second : IsWord (4 * stack_at m) = omega (arith, code, globals, heap) in
     let third : IsWord (4 * (stack_at m + m.params.stack)) = omega (arith, code, globals, heap, stack) in
-    All-from_recursion IsWord (variables m) (omega arith, (omega arith, (omega arith, (omega (arith, heap), (first, (second, (third, tt)))))))
+    All-from_recursion IsWord (layer_variables m) (omega arith, (omega arith, (omega arith, (omega (arith, heap), (first, (second, (third, tt)))))))
 
 block_fits : (pages : ℕ) → IsWord pages → All IsWord (block_words pages)
 block_fits pages h =
@@ -42,8 +42,8 @@ pub layer_words_fit : (m : Map) (sizes : List ℕ) → MapInRange m → All IsWo
 layer_words_fit m sizes r h =
     let handler : List ℕ = map encoding (interrupt_code m) in
     let second : List ℕ = map encoding (second_code m) in
-    All-append IsWord (zero_padded 1024 handler) (zero_padded 1024 (variables m) ++ (zero_padded 10240 second ++ zero_padded 4096 (blocks sizes)))
+    All-append IsWord (zero_padded 1024 handler) (zero_padded 1024 (layer_variables m) ++ (zero_padded 10240 second ++ zero_padded 4096 (blocks sizes)))
     (filled_words 1024 handler (code_words (interrupt_code m) (all_in (interrupt_code m) (handler_fits m r))))
-    (All-append IsWord (zero_padded 1024 (variables m)) (zero_padded 10240 second ++ zero_padded 4096 (blocks sizes)) (filled_words 1024 (variables m) (variable_words m r))
+    (All-append IsWord (zero_padded 1024 (layer_variables m)) (zero_padded 10240 second ++ zero_padded 4096 (blocks sizes)) (filled_words 1024 (layer_variables m) (variable_words m r))
     (All-append IsWord (zero_padded 10240 second) (zero_padded 4096 (blocks sizes)) (filled_words 10240 second (code_words (second_code m) (second_fits m r)))
     (filled_words 4096 (blocks sizes) (blocks_fit sizes h))))

@@ -1,46 +1,46 @@
-pub mod Keeps
-pub mod Joins
-pub mod Whole
+pub mod GetsKeep
+pub mod ResumeScripts
+pub mod Headlines
 mod Schedules
 mod LayerWords
 pub mod FirstCores
-pub mod Following
+pub mod SystemsFollow
 pub mod Accepted
-pub mod Starting
-pub mod Pasts
-pub mod Tells
+pub mod RunsStart
+pub mod RowsAlongRuns
+pub mod ScriptsTell
 pub mod Reports
-pub mod MadeOf
-mod Effects
-pub mod Stores
+pub mod ScriptsMadeOf
+mod LastingProperties
+pub mod ScriptsStore
 pub mod StartSectors
 pub mod StoredRuns
-pub mod Keys
+pub mod RunKeys
 pub mod OneCommand
-pub mod Outcomes
-pub mod Calls
+pub mod CommandOutcomes
+pub mod ScriptCalls
 pub mod Shapes
 pub mod Causes
 pub mod Refusals
 pub mod Completes
 pub mod Saves
-pub mod Asking
+pub mod PlansAreAsked
 pub mod Isolates
-pub mod Broken
-pub mod Behind
+pub mod BrokenScripts
+pub mod SectorsBehind
 pub mod RunFaults
 pub mod SaveFaults
 pub mod FaultLaws
-pub mod Yes
-mod Skips
-mod Joining
-mod Performed
+pub mod YesIsEnough
+mod TurnsRise
+mod SavesJoin
+mod PerformedScripts
 mod SavedMachines
-mod Holding
+mod SavesHold
 mod Resuming
-mod Taken
-mod Rejoining
-pub mod Promised
+mod ResumedMachines
+mod OtherDisks
+pub mod RunPromises
 pub mod PromisedSaves
 mod ResumeFaults
-pub mod ByRuns
+pub mod PromisesByRuns

@@ -5,7 +5,7 @@ use Rattle.std.specs.Str.Parse.{digits_value}
 use Rattle.std.proofs.lemmas.Fmt.{decimal_is_IsNumeral}
 use Rattle.run_scripts.specs.declared.session.StartPoint.{StartPoint}
 use Rattle.run_scripts.specs.declared.session.StartPoint.TheVariants.{Loaded, Rom}
-use Rattle.run_scripts.specs.Command.{Boot, Trace, Save, Command, boot, trace, save, resume, compile_user, compile_kernel, compile_program, link, migrate, sample, IsCommand, start_word, check}
+use Rattle.run_scripts.specs.Command.{BootCommand, Trace, Save, Command, boot, trace, save, resume, compile_user, compile_kernel, compile_program, link, migrate, sample, IsCommand, start_word, check}
 use Rattle.run_scripts.specs.Plan.{Plan, CommandPlan, PlanComesTo, no_command, by_command}
 use Rattle.real_layer.specs.Image.{layer_image}
 
@@ -29,7 +29,7 @@ second text = slice_index text 1
 abbrev third : List ℕ → ℕ
 third text = slice_index text 2
 
-abbrev boot_of : StartPoint → List (List ℕ) → Boot
+abbrev boot_of : StartPoint → List (List ℕ) → BootCommand
 boot_of start words = record { start = start; image = at words 1; schedule = at words 2; turns = number (at words 3); steps = number (at words 4) }
 
 abbrev save_of : List (List ℕ) → Save
@@ -53,9 +53,9 @@ meant words =
 read_back : (n : ℕ) → n < 2 ^ 64 → number (decimal n) ≡ n
 read_back n small = (decimal_is_IsNumeral n small).1
 
-boot_back : (b : Boot) → b.turns < 2 ^ 32 → b.steps < 2 ^ 64 → boot_of b.start ([] ∷ b.image ∷ b.schedule ∷ decimal b.turns ∷ decimal b.steps ∷ []) ≡ b
+boot_back : (b : BootCommand) → b.turns < 2 ^ 32 → b.steps < 2 ^ 64 → boot_of b.start ([] ∷ b.image ∷ b.schedule ∷ decimal b.turns ∷ decimal b.steps ∷ []) ≡ b
 boot_back b few less =
-    let with_numbers : ℕ → ℕ → Boot = λ turns steps. record { start = b.start; image = b.image; schedule = b.schedule; turns = turns; steps = steps } in
+    let with_numbers : ℕ → ℕ → BootCommand = λ turns steps. record { start = b.start; image = b.image; schedule = b.schedule; turns = turns; steps = steps } in
     ap (λ turns. with_numbers turns (number (decimal b.steps))) (read_back b.turns (omega (arith, few))) ∙ ap (with_numbers b.turns) (read_back b.steps less)
 
 -- the first letter of a boot's words tells its start
@@ -64,7 +64,7 @@ boot_meant Loaded image schedule turns steps = refl
 boot_meant Rom image schedule turns steps = refl
 
 -- that of a trace is no ROM
-loaded_meant : (b : Boot) (start : StartPoint) → Loaded ≡ start → boot_of Loaded ([] ∷ b.image ∷ b.schedule ∷ decimal b.turns ∷ decimal b.steps ∷ [])
+loaded_meant : (b : BootCommand) (start : StartPoint) → Loaded ≡ start → boot_of Loaded ([] ∷ b.image ∷ b.schedule ∷ decimal b.turns ∷ decimal b.steps ∷ [])
     ≡ boot_of start ([] ∷ b.image ∷ b.schedule ∷ decimal b.turns ∷ decimal b.steps ∷ [])
 loaded_meant b start e = ap (λ (s : StartPoint). boot_of s ([] ∷ b.image ∷ b.schedule ∷ decimal b.turns ∷ decimal b.steps ∷ [])) e
 
@@ -72,12 +72,12 @@ loaded_meant b start e = ap (λ (s : StartPoint). boot_of s ([] ∷ b.image ∷ 
 save_back : (c : Save) → c.boot.start ≡ Loaded → c.boot.turns < 2 ^ 32 → c.boot.steps < 2 ^ 64
     → save_of ([] ∷ c.boot.image ∷ c.boot.schedule ∷ decimal c.boot.turns ∷ decimal c.boot.steps ∷ c.file ∷ []) ≡ c
 save_back c loaded few less =
-    let with_boot : Boot → Save = λ b. record { boot = b; file = c.file } in
+    let with_boot : BootCommand → Save = λ b. record { boot = b; file = c.file } in
     ap with_boot (loaded_meant c.boot c.boot.start (sym loaded) ∙ boot_back c.boot few less)
 
-trace_back : (t : Trace) (b : Boot) (user : ℕ) → b ≡ t.boot → user ≡ t.user → trace (record { boot = b; user = user }) ≡ trace t
+trace_back : (t : Trace) (b : BootCommand) (user : ℕ) → b ≡ t.boot → user ≡ t.user → trace (record { boot = b; user = user }) ≡ trace t
 trace_back t b user e f =
-    let trace_of : Boot → ℕ → Command = λ x u. trace (record { boot = x; user = u }) in
+    let trace_of : BootCommand → ℕ → Command = λ x u. trace (record { boot = x; user = u }) in
     ap (λ x. trace_of x user) e ∙ ap (trace_of t.boot) f
 
 is_meant : (words : List (List ℕ)) (c : Command) → IsCommand words c → meant words ≡ c

@@ -15,45 +15,48 @@ use Rattle.cvm_model.specs.Text.{rows_text}
 use Rattle.layer_contract.specs.Layer.{Rests}
 use Rattle.saved_file.specs.Answer.{answer as machine_of, AnswersAreResumable}
 use Rattle.saved_file.specs.Resumable.{CanBeResumed}
-use Rattle.boot_turns.specs.Headline.{Ending, Done as IsDone, OutOfSteps, ending_of, ending, RanFrom}
+use Rattle.boot_run.specs.declared.whole.RunEnd.{RunEnd}
+use Rattle.boot_run.specs.declared.whole.RunEnd.TheVariants.{Done as IsDone}
+use Rattle.run_scripts.specs.RanFrom.{ending, RanFrom}
 use Rattle.boot_turns.specs.Runs.{Run, Past, IsPast, state_at, turns_at, steps_made, has_ended, lines_met, cvm_at}
 use Rattle.boot_turns.specs.TurnEnds.{RestsAfter, TurnIsOver}
 use Rattle.boot_run.specs.SavedRuns.{SavedAt}
-use Rattle.boot_run.specs.RunScript.{rest_script, saved_words}
+use Rattle.boot_run.specs.RunScript.{rest_script, saved_words, saved_bytes}
 use Rattle.boot_run.proofs.AbstractRuns.{past_of, turns_up_to}
 use Rattle.kernel_linker.specs.Accept.{ImageSystem}
 use Rattle.boot_run.specs.SaveRoom.{FILE_ROOM}
+use Rattle.boot_run.specs.RunCalls.{end_by}
 use Rattle.run_scripts.specs.declared.exit_status.Status.{Status}
 use Rattle.run_scripts.specs.declared.exit_status.Status.TheVariants.{Done, KernelFault}
 use Rattle.run_scripts.specs.Boot.{sectors_needed, SessionGoesOn}
 use Rattle.run_scripts.specs.CommandEnds.{HasSteps}
 use Rattle.run_scripts.specs.Command.{Save, IsSave, IsResume, save_session, Command, resume}
-use Rattle.run_scripts.specs.Ends.{Does, SavedRun, answered}
+use Rattle.run_scripts.specs.Ends.{WasDone, SavedRun, answered}
 use Rattle.run_scripts.specs.Plan.{saves, resumes, wanted_by, frames_of}
 use Rattle.run_scripts.specs.Resumes.{IsHonestResume, IsSavedRun, IsBootBehind}
-use Rattle.run_scripts.specs.RunStatus.{run_status, saved_bytes, status_of}
+use Rattle.run_scripts.specs.RunStatus.{run_status, status_of_end}
 use Rattle.run_scripts.specs.Saves.{SaveHolds, as_boot, is_saved, IsHonestSave, IsSavedAt}
 use Rattle.run_scripts.specs.SessionRuns.{run_of}
-use Rattle.run_scripts.specs.Headline.{Asked, saved_so, resumed_so, IsOver, text_at, whole_text}
-use Rattle.run_scripts.proofs.ByRuns.{ItGoesOn, IsSaved, IsUnsaved, SavedSo}
-use Rattle.run_scripts.specs.Keys.{RunLaws, ScriptLaws}
-use Rattle.run_scripts.specs.Served.{NoneFailed, ShelfServes, AreGiven}
+use Rattle.run_scripts.specs.Headline.{Asked, saved_so, resumed_so, EndIsOver, text_at, whole_text}
+use Rattle.run_scripts.proofs.PromisesByRuns.{ItGoesOn, IsSaved, IsUnsaved, SavedSo}
+use Rattle.run_scripts.specs.Keys.{LawsOfRuns, ScriptLaws}
+use Rattle.run_scripts.specs.Served.{NoneFailed, ShelfServes, AreSurelyGiven}
 use Rattle.run_scripts.specs.Promises.{SavesAreHeld, SavesAreComplete, ResumesAreHeld, ResumesAreComplete}
-use Rattle.run_scripts.proofs.Asking.{asked_save, asked_resume}
+use Rattle.run_scripts.proofs.PlansAreAsked.{asked_save, asked_resume}
 use Rattle.run_scripts.proofs.Causes.{mid_disk}
 use Rattle.run_scripts.proofs.Completes.{run_done, it_goes_on}
-use Rattle.run_scripts.proofs.Joins.{saved_joins}
-use Rattle.run_scripts.proofs.Keys.{known, ends_are_over, sectors_behind_stay}
-use Rattle.run_scripts.proofs.Pasts.{Known, founded}
-use Rattle.run_scripts.proofs.Performed.{Says, says_text, leaves_sectors}
-use Rattle.run_scripts.proofs.Promised.{told_disk, was_done, plan_finds, status_as, ran, headline_told}
+use Rattle.run_scripts.proofs.ResumeScripts.{saved_joins}
+use Rattle.run_scripts.proofs.RunKeys.{known, ends_are_over, sectors_behind_stay}
+use Rattle.run_scripts.proofs.RowsAlongRuns.{Known, founded}
+use Rattle.run_scripts.proofs.PerformedScripts.{Says, says_text, leaves_sectors}
+use Rattle.run_scripts.proofs.RunPromises.{told_disk, was_done, plan_finds, ran, headline_told}
 use Rattle.run_scripts.proofs.Refusals.{none_blamed}
-use Rattle.run_scripts.proofs.Rejoining.{with_disk, other_disk}
+use Rattle.run_scripts.proofs.OtherDisks.{with_disk, other_disk}
 use Rattle.run_scripts.proofs.Reports.{rest_tells}
 use Rattle.run_scripts.proofs.SavedMachines.{saved_at, FileLaws}
-use Rattle.run_scripts.proofs.Skips.{no_later}
+use Rattle.run_scripts.proofs.TurnsRise.{no_later}
 use Rattle.run_scripts.proofs.StoredRuns.{rest_leaves}
-use Rattle.run_scripts.proofs.Holding.{saves_hold}
+use Rattle.run_scripts.proofs.SavesHold.{saves_hold}
 use Rattle.run_scripts.proofs.Resuming.{resumes_go_on}
 use Rattle.run_scripts.proofs.Saves.{saves_complete}
 use Rattle.cvm_outside.specs.Causes.{Rose}
@@ -61,7 +64,7 @@ use Rattle.run_scripts.proofs.OneCommand.{one_command}
 use Rattle.mips_table.specs.Device.{Environment}
 
 -- THE PREMISES
-asked_save_of : (words : List (List ℕ)) (c : Save) (s : ImageSystem) (rows : Rows) (before : List (List ℕ)) (old new : Outside) (status : Status) → Does words old new status
+asked_save_of : (words : List (List ℕ)) (c : Save) (s : ImageSystem) (rows : Rows) (before : List (List ℕ)) (old new : Outside) (status : Status) → WasDone words old new status
     → IsHonestSave words c s rows before old new → Asked words (saves (save_session c) s rows c.file) (save_session c) s rows before old
 asked_save_of words c s rows before old new status d h =
     let p = asked_save words c s rows before old new h in
@@ -77,7 +80,7 @@ asked_save_of words c s rows before old new status d h =
       enough = h.enough;
     }
 
-asked_resume_of : (words : List (List ℕ)) (c : Save) (s : ImageSystem) (rows : Rows) (machine : List ℕ) (left : List (List ℕ)) (old new : Outside) (status : Status) → Does words old new status
+asked_resume_of : (words : List (List ℕ)) (c : Save) (s : ImageSystem) (rows : Rows) (machine : List ℕ) (left : List (List ℕ)) (old new : Outside) (status : Status) → WasDone words old new status
     → IsHonestResume words c s rows machine left old new → Asked words (resumes (save_session c) s rows machine) (save_session c) s rows left old
 asked_resume_of words c s rows machine left old new status d h =
     let p = asked_resume words c s rows machine left old new h in
@@ -100,7 +103,7 @@ same_cvm a b e = cc
 not_halted : Running ≡ Halted → ⊥
 not_halted e = cc
 
-module _ (r : Run) (p : Past) (is : IsPast r p) (over : IsOver r p) where
+module _ (r : Run) (p : Past) (is : IsPast r p) (over : EndIsOver r p) where
   abbrev n : ℕ
   n = steps_made r
 
@@ -108,7 +111,7 @@ module _ (r : Run) (p : Past) (is : IsPast r p) (over : IsOver r p) where
   rests_halted zero h c e = absurd (not_halted (ap (λ (x : Cvm). x.status) (same_cvm (first_cvm r.system) (cvm_at r p n) c.is) ∙ e))
   rests_halted (suc k) h c e = subst (λ (st : CvmStatus). Rests st (state_at r n)) e h.0
 
-  halts : (b : Bool) → has_ended r ≡ b → (st : CvmStatus) → (cvm_at r p n).status ≡ st → ((b ≡ true) × (st ≡ Running) → ⊥) → (if b then ending_of st else OutOfSteps) ≡ IsDone → (state_at r n).off ≡ Some 0
+  halts : (b : Bool) → has_ended r ≡ b → (st : CvmStatus) → (cvm_at r p n).status ≡ st → ((b ≡ true) × (st ≡ Running) → ⊥) → end_by b st ≡ IsDone → (state_at r n).off ≡ Some 0
   halts true e Running s never d = absurd (never (refl, refl))
   halts true e Halted s never d = rests_halted (turns_at r n) (over e).rests (is.turns (turns_at r n) (omega arith)) s
   halts true e (Faulted f) s never d = absurd (cc)
@@ -144,7 +147,7 @@ of_saved x y s turns steps words left shown a = record {
 }
 
 -- THE THEOREM OF SAVE
-module _ (law : RunLaws) (sums : SumLaws) (read : AnswersAreResumable machine_of) (words : List (List ℕ)) (c : Save) (s : ImageSystem) (rows : Rows) (before : List (List ℕ)) (old new : Outside) (status : Status)
+module _ (law : LawsOfRuns) (sums : SumLaws) (read : AnswersAreResumable machine_of) (words : List (List ℕ)) (c : Save) (s : ImageSystem) (rows : Rows) (before : List (List ℕ)) (old new : Outside) (status : Status)
     (a : Asked words (saves (save_session c) s rows c.file) (save_session c) s rows before old) (asked : IsSave words c) (room : 4 * (5176 + 1024 * frames_of s) ≤ FILE_ROOM)
     (goes : SessionGoesOn (save_session c) old s rows before) (h : SavedSo c s rows (run_of (save_session c) s rows old.disk.size before) before old new status) where
   abbrev r : Run
@@ -162,14 +165,14 @@ module _ (law : RunLaws) (sums : SumLaws) (read : AnswersAreResumable machine_of
 
   -- a run that is left
   module _ (w : IsSaved c s rows r h.past old new) where
-    abbrev Ran : Ending → List ℕ → Type 0
+    abbrev Ran : RunEnd → List ℕ → Type 0
     Ran e text = RanFrom r.around r.system r.first (sectors_needed (save_session c) s rows) before (state_at r made).device.sectors r.view r.turns r.steps e text
 
-    is_done : (if has_ended r then ending_of (cvm_at r h.past made).status else OutOfSteps) ≡ IsDone
-    is_done = ap₂ (λ (b : Bool) (st : CvmStatus). if b then ending_of st else OutOfSteps) w.left.0 w.left.1
+    is_done : end_by (has_ended r) (cvm_at r h.past made).status ≡ IsDone
+    is_done = ap₂ end_by w.left.0 w.left.1
 
     boots_so : Ran IsDone (text_at r h.past made ++ (codes "stopped\n" ++ w.rest))
-    boots_so = subst (λ (e : Ending). Ran e (text_at r h.past made ++ (codes "stopped\n" ++ w.rest))) is_done
+    boots_so = subst (λ (e : RunEnd). Ran e (text_at r h.past made ++ (codes "stopped\n" ++ w.rest))) is_done
         (subst (λ (text : List ℕ). Ran (ending r.around r.first r.turns r.steps (cvm_at r h.past made)) text) w.boot
         (ran r h.past h.is_past (sectors_needed (save_session c) s rows) before (record { are = refl; beyond = h.machine.beyond }) h.over))
 
@@ -184,7 +187,7 @@ module _ (law : RunLaws) (sums : SumLaws) (read : AnswersAreResumable machine_of
     can = read (wanted_by s rows c.boot.turns) (saved_bytes r h.past) (saved_words r h.past) (w.fits c.boot.turns (omega arith) asked.turns_fit)
 
     was_left : SaveHolds c s rows before old new status
-    was_left = is_saved (h.status_is ∙ ap₂ status_of w.left.0 w.left.1) h.others (record {
+    was_left = is_saved (h.status_is ∙ ap status_of_end is_done) h.others (record {
       after = (state_at r made).device.sectors;
       words = saved_words r h.past;
       shown = text_at r h.past made;
@@ -310,7 +313,7 @@ module _ (law : ScriptLaws) (read : AnswersAreResumable machine_of) (goes : ItGo
           };
         }
 
-    behind : (new : Outside) (status : Status) → NoneFailed words old new → (h : Does words old new status) → IsBootBehind c s rows before shown old old new status
+    behind : (new : Outside) (status : Status) → NoneFailed words old new → (h : WasDone words old new status) → IsBootBehind c s rows before shown old old new status
     behind new status none h =
         let j = saved_joins words c s rows machine left old new status whole p at is a saved_run h in
         let k = mid_disk law.blame words old new status h in
@@ -321,7 +324,7 @@ module _ (law : ScriptLaws) (read : AnswersAreResumable machine_of) (goes : ItGo
         let leaves : sectors_after (rest_script whole p at) left ≡ (state_at whole (steps_made whole)).device.sectors =
         ap (sectors_after (rest_script whole p at)) w.saved_at.left_is ∙ rest_leaves law.runs.count whole p at none_later in
         let text : whole_text whole p ≡ shown ++ t.text = t.is ∙ ap (λ (x : Cvm). rows_text x.rows ++ t.text) same ∙ ap (λ (l : List ℕ). l ++ t.text) (sym w.saved_at.shown_is) in
-        let over : IsOver whole p = ends_are_over law.runs words _ (save_session c) s rows before (with_disk old before) asked p past in
+        let over : EndIsOver whole p = ends_are_over law.runs words _ (save_session c) s rows before (with_disk old before) asked p past in
         let held : ℕ = sectors_needed (save_session c) s rows in
         record {
           after = (state_at whole (steps_made whole)).device.sectors;
@@ -329,7 +332,7 @@ module _ (law : ScriptLaws) (read : AnswersAreResumable machine_of) (goes : ItGo
           ending = ending whole.around whole.first whole.turns whole.steps (cvm_at whole p (steps_made whole));
           sectors = leaves_sectors law.store (rest_script whole p at) old h.mid new left (state_at whole (steps_made whole)).device.sectors a.sectors leaves k.0 z;
           printed = t.printed;
-          status_is = h.status_is ∙ j.1 ∙ ap (answered (run_status whole p)) n ∙ status_as (has_ended whole) (cvm_at whole p (steps_made whole)).status;
+          status_is = h.status_is ∙ j.1 ∙ ap (answered (run_status whole p)) n;
           ran = subst (λ (l : List ℕ). RanFrom whole.around whole.system whole.first held before (state_at whole (steps_made whole)).device.sectors whole.view whole.turns whole.steps
               (ending whole.around whole.first whole.turns whole.steps (cvm_at whole p (steps_made whole))) l) text
               (ran whole p past held before (record { are = refl; beyond = sectors_behind_stay law.runs words _ (save_session c) s rows before (with_disk old before) asked (steps_made whole) (omega arith) }) over);
@@ -337,7 +340,7 @@ module _ (law : ScriptLaws) (read : AnswersAreResumable machine_of) (goes : ItGo
         }
 
     -- with enough steps it is done
-    enough : (new : Outside) (status : Status) → NoneFailed words old new → (h : Does words old new status) → HasSteps (save_session c) s rows before old → (status ≡ Done) ⊎ (status ≡ KernelFault)
+    enough : (new : Outside) (status : Status) → NoneFailed words old new → (h : WasDone words old new status) → HasSteps (save_session c) s rows before old → (status ≡ Done) ⊎ (status ≡ KernelFault)
     enough new status none h has =
         let j = saved_joins words c s rows machine left old new status whole p at is a saved_run h in
         let n = none_blamed law.blame words old new status h none in
@@ -361,7 +364,7 @@ no_resume_failed words c s rows machine left old new h = record {
   disk = h.served.disk;
 }
   where
-    by : AreGiven old.shelf.gives (c.boot.image ∷ c.boot.schedule ∷ c.file ∷ []) ⊎ (Rose old.shelf.faults new.shelf.faults → ⊥) → ShelfServes (resume c) old new
+    by : AreSurelyGiven old.shelf.gives (c.boot.image ∷ c.boot.schedule ∷ c.file ∷ []) ⊎ (Rose old.shelf.faults new.shelf.faults → ⊥) → ShelfServes (resume c) old new
     by (inl given) = inl (given, refl)
     by (inr none) = inr none
 

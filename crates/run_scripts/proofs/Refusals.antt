@@ -9,23 +9,22 @@ use Rattle.run_scripts.specs.Command.{Command, IsCommand, save, resume}
 use Rattle.run_scripts.specs.Refusal.{Refusal, small_disk, no_such_user, too_long, refusal_status, refusal_text}
 use Rattle.run_scripts.specs.Plan.{Plan, bad_words, refuses, puts, boots, saves, resumes, prints as tells, PlanComesTo, AllTold}
 use Rattle.cvm_outside.specs.Causes.{Rose}
-use Rattle.cvm_outside.specs.Told.{AppendsPart}
 use Rattle.cvm_outside.specs.ScriptLaws.{ScriptsBlame, PrintedBy, GetsGiven}
 use Rattle.cvm_outside.specs.Outside.{Outside, Drive, Output}
 use Rattle.cvm_outside.specs.Script.{Call, Printed, Read, Wrote, Got, Stored, Who, TheSink, TheDisk, TheShelf, Performs, faults_of}
-use Rattle.cvm_outside.proofs.Follow.{given}
+use Rattle.cvm_outside.proofs.ScriptsFollow.{given}
 use Rattle.run_scripts.specs.Boot.{sectors_needed}
 use Rattle.boot_run.specs.Closing.{says}
 use Rattle.run_scripts.specs.RunStatus.{IsRunStatus}
-use Rattle.run_scripts.specs.Ends.{Does, done, no_file, no_memory, GetsFor, all, up_to, IsNotGot, behind, within, wants, PlanAsks, SessionAsks, no_user, small, over_told, over_untold, answered}
-use Rattle.run_scripts.specs.Served.{files_of, gets, NoneFailed, ShelfServes, AreGiven}
+use Rattle.run_scripts.specs.Ends.{WasDone, done, no_file, no_memory, GetsFor, all, up_to, IsNotGot, behind, within, wants, PlanAsks, SessionAsks, no_user, small, over_told, over_untold, answered}
+use Rattle.run_scripts.specs.Served.{files_of, gets, NoneFailed, ServesWords, ShelfServes, AreSurelyGiven}
 use Rattle.run_scripts.specs.Headline.{IsOf, booted_so, saved_so, resumed_so}
 use Rattle.run_scripts.specs.Shapes.{gets_in, puts_in, NamedBy}
-use Rattle.run_scripts.specs.Causes.{FilesAreRefused, HasNoUser, MissingUsersAreRefused, SmallDisksAreRefused, LongFilesAreRefused, RefusedAsLong, RunsEnd, IsRun, WorkCompletes, IsWork}
-use Rattle.run_scripts.proofs.Calls.{shape_of}
+use Rattle.run_scripts.specs.Causes.{FilesAreRefused, HasNoUser, MissingUsersAreRefused, SmallDisksAreRefused, LongFilesAreRefused, RefusedWith, RunsEnd, IsRun, WorkCompletes, IsWork}
+use Rattle.run_scripts.proofs.ScriptCalls.{shape_of}
 use Rattle.run_scripts.proofs.OneCommand.{one_command}
-use Rattle.run_scripts.proofs.Outcomes.{Outcome, is_none, is_refused, is_booted, is_saved, is_resumed, is_put, is_told, outcome}
-use Rattle.run_scripts.proofs.Causes.{Due, by_words, by_refusal, by_user, by_disk, by_work, by_run, run_due, says_printed, says_part, says_blames, of_done, of_no_file, mid_disk, done_due}
+use Rattle.run_scripts.proofs.CommandOutcomes.{Outcome, is_none, is_refused, is_booted, is_saved, is_resumed, is_put, is_told, outcome}
+use Rattle.run_scripts.proofs.Causes.{Due, by_words, by_refusal, by_user, by_disk, by_work, by_run, run_due, says_printed, says_blames, row_told, of_done, of_no_file, mid_disk, done_due}
 
 same_view : (u v : ℕ) → Trace u ≡ Trace v → u ≡ v
 same_view u v e = cc
@@ -39,7 +38,7 @@ given_quiet gives (Wrote q ws ∷ rest) g p = given_quiet gives rest g p
 given_quiet gives (Got n ∷ rest) g p = absurd (let e : n ∷ gets_in rest ≡ [] = g in cc)
 given_quiet gives (Stored n bytes ∷ rest) g p = absurd (let e : n ∷ puts_in rest ≡ [] = p in cc)
 
-given_front : (gives : List ℕ → Bool) (before after : List (List ℕ)) (name : List ℕ) → AreGiven gives (before ++ name ∷ after) → GetsGiven gives (gets (before ++ name ∷ []))
+given_front : (gives : List ℕ → Bool) (before after : List (List ℕ)) (name : List ℕ) → AreSurelyGiven gives (before ++ name ∷ after) → GetsGiven gives (gets (before ++ name ∷ []))
 given_front gives [] after name h = (h.0, tt)
 given_front gives (n ∷ before) after name h = (h.0, given_front gives before after name h.1)
 
@@ -54,7 +53,7 @@ not_shelf b (inr n) e = let z : Some TheSink ≡ Some TheShelf = sym n ∙ e in 
 
 module _ (blame : ScriptsBlame) where
   -- nobody is blamed where no call fails
-  module _ (words : List (List ℕ)) (old new : Outside) (status : Status) (h : Does words old new status) where
+  module _ (words : List (List ℕ)) (old new : Outside) (status : Status) (h : WasDone words old new status) where
     rose : (w : Who) → h.blamed ≡ Some w → Rose (faults_of w old) (faults_of w new)
     rose w e = ((of_done blame words old new status h w).rose e).rose
 
@@ -89,28 +88,28 @@ module _ (blame : ScriptsBlame) where
         by (Some TheShelf) e = absurd (shelf_of f h.plan refl (outcome words old.shelf.file h.plan h.is_plan.comes) e)
 
   -- a row that is all that is printed
-  row_printed : (words : List (List ℕ)) (old new : Outside) (status : Status) (h : Does words old new status) (text : List ℕ) → h.script ≡ says text → h.blamed ≡ None →
+  row_printed : (words : List (List ℕ)) (old new : Outside) (status : Status) (h : WasDone words old new status) (text : List ℕ) → h.script ≡ says text → h.blamed ≡ None →
       PrintedBy None old.sink.text new.sink.text text
   row_printed words old new status h text s n =
       says_printed text h.mid new (subst (λ (b : Option Who). Performs (says text) h.mid new b) n (subst (λ (a : List Call). Performs a h.mid new h.blamed) s h.performs))
       ∙ ap (λ (o : Output). append_known o.text text) (mid_disk blame words old new status h).1
 
-  pub status_due : (words : List (List ℕ)) (old new : Outside) (status : Status) (h : Does words old new status) → h.blamed ≡ None → status ≡ h.due
+  pub status_due : (words : List (List ℕ)) (old new : Outside) (status : Status) (h : WasDone words old new status) → h.blamed ≡ None → status ≡ h.due
   status_due words old new status h n = h.status_is ∙ ap (answered h.due) n
 
   -- the plan is the one that words and files come to
-  pub plan_asks : (words : List (List ℕ)) (old new : Outside) (status : Status) (h : Does words old new status) (p : Plan) → AllTold words old.shelf.file → PlanComesTo words old.shelf.file p →
+  pub plan_asks : (words : List (List ℕ)) (old new : Outside) (status : Status) (h : WasDone words old new status) (p : Plan) → AllTold words old.shelf.file → PlanComesTo words old.shelf.file p →
       PlanAsks p h.mid h.script h.due
   plan_asks words old new status h p told comes = subst (λ (q : Plan). PlanAsks q h.mid h.script h.due) (sym (h.is_plan.only told p comes)) h.asks
 
   -- a get that failed is of no file that was given
-  pub no_file_failed : (words : List (List ℕ)) (c : Command) (old new : Outside) → IsCommand words c → NoneFailed words old new → IsNotGot (files_of c) old new → ⊥
-  no_file_failed words c old new is f g = by (f.shelf c is)
+  pub no_file_failed : (words : List (List ℕ)) (c : Command) (old new : Outside) → IsCommand words c → ServesWords words old new → IsNotGot (files_of c) old new → ⊥
+  no_file_failed words c old new is serves g = by (serves c is)
     where
       by : ShelfServes c old new → ⊥
       by (inl (got, put)) =
           let front : GetsGiven old.shelf.gives (gets (g.before ++ g.name ∷ [])) =
-          given_front old.shelf.gives g.before g.after g.name (subst (AreGiven old.shelf.gives) (sym g.all) got) in
+          given_front old.shelf.gives g.before g.after g.name (subst (AreSurelyGiven old.shelf.gives) (sym g.all) got) in
           (given (gets (g.before ++ g.name ∷ [])) old new (Some TheShelf) g.performs).sure front refl
       by (inr none) = none ((of_no_file blame (files_of c) old new g TheShelf).rose refl).rose
 
@@ -120,11 +119,10 @@ module _ (blame : ScriptsBlame) where
   pub files_are_refused : FilesAreRefused
   files_are_refused words old new status told (done _ h) = record { so = so; only = λ e. only h.blamed refl (sym h.status_is ∙ e) }
     where
-      so : (r : Refusal) → PlanComesTo words old.shelf.file (refuses r) → NoneFailed words old new → status ≢ Memory → (status ≡ refusal_status r) × PrintedBy None old.sink.text new.sink.text (refusal_text r)
-      so r comes f m =
-          let n = none_blamed words old new status h f in
+      so : (r : Refusal) → PlanComesTo words old.shelf.file (refuses r) → ServesWords words old new → status ≢ Memory → RefusedWith (refusal_status r) (refusal_text r) old new status
+      so r comes serves m =
           let a = plan_asks words old new status h (refuses r) told comes in
-          (status_due words old new status h n ∙ a.1, row_printed words old new status h (refusal_text r) a.0 n)
+          row_told blame words old new status h (refusal_status r) (refusal_text r) a.0 a.1
 
       by : Due h.plan h.mid h.script h.due → h.due ≡ Refused → h.blamed ≡ None →
           (r : Refusal) × (PlanComesTo words old.shelf.file (refuses r) ⊎ HasNoUser words old r) × PrintedBy None old.sink.text new.sink.text (refusal_text r)
@@ -156,72 +154,55 @@ module _ (blame : ScriptsBlame) where
       only (Some TheSink) n e = absurd (cc)
       only (Some TheDisk) n e = absurd (cc)
       only (Some TheShelf) n e = absurd (cc)
-  files_are_refused words old new status told (no_file c is g) = record { so = λ r comes f m. absurd (no_file_failed words c old new is f g); only = λ e. absurd (cc) }
-  files_are_refused words old new status told (no_memory c is w) = record { so = λ r comes f m. absurd (m refl); only = λ e. absurd (cc) }
+  files_are_refused words old new status told (no_file c is g) = record { so = λ r comes serves m. absurd (no_file_failed words c old new is serves g); only = λ e. absurd (cc) }
+  files_are_refused words old new status told (no_memory c is w) = record { so = λ r comes serves m. absurd (m refl); only = λ e. absurd (cc) }
 
   pub missing_users_are_refused : MissingUsersAreRefused
-  missing_users_are_refused words old new status r told w f (done _ h) m = by h.script h.due refl refl (plan_asks words old new status h (boots w.session w.system w.rows) told w.is_plan)
+  missing_users_are_refused words old new status r told w serves (done _ h) m = by h.script h.due refl refl (plan_asks words old new status h (boots w.session w.system w.rows) told w.is_plan)
     where
       by : (script : List Call) (due : Status) → h.script ≡ script → h.due ≡ due → PlanAsks (boots w.session w.system w.rows) h.mid script due →
-          (status ≡ Refused) × PrintedBy None old.sink.text new.sink.text (refusal_text r)
+          RefusedWith Refused (refusal_text r) old new status
       by script due s d (no_user u v x) =
-          let n = none_blamed words old new status h f in
           let same : no_such_user u (length w.system.users) ≡ r = ap (λ (k : ℕ). no_such_user k (length w.system.users)) (same_view u w.user (sym v ∙ w.view)) ∙ sym w.is in
-          (status_due words old new status h n ∙ d, row_printed words old new status h (refusal_text r) (s ∙ ap (λ (q : Refusal). says (refusal_text q)) same) n)
+          row_told blame words old new status h Refused (refusal_text r) (s ∙ ap (λ (q : Refusal). says (refusal_text q)) same) d
       by script due s d (small v x) = absurd (w.none v)
       by script due s d (over_told ss _ _ v x q a) = absurd (w.none v)
       by script due s d (over_untold _ _ v x q a) = absurd (w.none v)
-  missing_users_are_refused words old new status r told w f (no_file c is g) m = absurd (no_file_failed words c old new is f g)
-  missing_users_are_refused words old new status r told w f (no_memory c is x) m = absurd (m refl)
+  missing_users_are_refused words old new status r told w serves (no_file c is g) m = absurd (no_file_failed words c old new is serves g)
+  missing_users_are_refused words old new status r told w serves (no_memory c is x) m = absurd (m refl)
 
   pub small_disks_are_refused : SmallDisksAreRefused
-  small_disks_are_refused words plan session s rows old new status told comes is sees few f (done _ h) m = by plan is (plan_asks words old new status h plan told comes)
+  small_disks_are_refused words plan session s rows old new status told comes is sees few serves (done _ h) m = by plan is (plan_asks words old new status h plan told comes)
     where
       less : h.mid.disk.size < sectors_needed session s rows
       less = subst (λ (d : Drive). d.size < sectors_needed session s rows) (sym (mid_disk blame words old new status h).0) few
 
       ends : (Told : List (List ℕ) → List Call → Status → Type 0) (Some_ : List Call → Status → Type 0) (script : List Call) (due : Status) → h.script ≡ script → h.due ≡ due →
-          SessionAsks session s rows h.mid Told Some_ script due →
-          (status ≡ Disk) × PrintedBy None old.sink.text new.sink.text (refusal_text (small_disk (sectors_needed session s rows) old.disk.size))
+          SessionAsks session s rows h.mid Told Some_ script due → RefusedWith Disk (refusal_text (small_disk (sectors_needed session s rows) old.disk.size)) old new status
       ends T S script due e d (no_user u v x) = absurd (x sees)
       ends T S script due e d (small v x) =
-          let n = none_blamed words old new status h f in (
-            status_due words old new status h n ∙ d,
-            row_printed words old new status h (refusal_text (small_disk (sectors_needed session s rows) old.disk.size))
-                (e ∙ ap (λ (k : Drive). says (refusal_text (small_disk (sectors_needed session s rows) k.size))) (mid_disk blame words old new status h).0) n,
-          )
+          row_told blame words old new status h Disk (refusal_text (small_disk (sectors_needed session s rows) old.disk.size))
+          (e ∙ ap (λ (k : Drive). says (refusal_text (small_disk (sectors_needed session s rows) k.size))) (mid_disk blame words old new status h).0) d
       ends T S script due e d (over_told ss _ _ v x q a) = absurd (omega (arith, x, less))
       ends T S script due e d (over_untold _ _ v x q a) = absurd (omega (arith, x, less))
 
       by : (p : Plan) → IsOf session s rows p → PlanAsks p h.mid h.script h.due →
-          (status ≡ Disk) × PrintedBy None old.sink.text new.sink.text (refusal_text (small_disk (sectors_needed session s rows) old.disk.size))
+          RefusedWith Disk (refusal_text (small_disk (sectors_needed session s rows) old.disk.size)) old new status
       by p booted_so a = ends _ _ h.script h.due refl refl a
       by p (saved_so name) a = ends _ _ h.script h.due refl refl a
       by p (resumed_so machine) a = ends _ _ h.script h.due refl refl a
-  small_disks_are_refused words plan session s rows old new status told comes is sees few f (no_file c k g) m = absurd (no_file_failed words c old new k f g)
-  small_disks_are_refused words plan session s rows old new status told comes is sees few f (no_memory c k x) m = absurd (m refl)
+  small_disks_are_refused words plan session s rows old new status told comes is sees few serves (no_file c k g) m = absurd (no_file_failed words c old new k serves g)
+  small_disks_are_refused words plan session s rows old new status told comes is sees few serves (no_memory c k x) m = absurd (m refl)
 
   pub long_files_are_refused : LongFilesAreRefused
   long_files_are_refused words c old new status is some (done _ h) taken = by h.plan refl h.got (h.gets.0 c is)
     where
-      sink : h.mid.sink ≡ old.sink
-      sink = (mid_disk blame words old new status h).1
-
-      ends : (b : Option Who) → status ≡ answered Shelf b → (b ≡ None) ⊎ (b ≡ Some TheSink) → Performs (says (refusal_text too_long)) h.mid new b → RefusedAsLong old new status
-      ends b e (inl n) q =
-          let z = subst (λ (x : Option Who). Performs (says (refusal_text too_long)) h.mid new x) n q in
-          inl (e ∙ ap (answered Shelf) n, says_printed (refusal_text too_long) h.mid new z ∙ ap (λ (o : Output). append_known o.text (refusal_text too_long)) sink)
-      ends b e (inr n) q =
-          let z = subst (λ (x : Option Who). Performs (says (refusal_text too_long)) h.mid new x) n q in
-          inr (e ∙ ap (answered Shelf) n, subst (λ (o : Output). AppendsPart o.text new.sink.text (refusal_text too_long)) sink (says_part (refusal_text too_long) h.mid new z))
-
-      refused : h.plan ≡ refuses too_long → RefusedAsLong old new status
+      refused : h.plan ≡ refuses too_long → RefusedWith Shelf (refusal_text too_long) old new status
       refused e =
           let a = subst (λ (p : Plan). PlanAsks p h.mid h.script h.due) e h.asks in
-          let q = subst (λ (x : List Call). Performs x h.mid new h.blamed) a.0 h.performs in
-          ends h.blamed (h.status_is ∙ ap (λ (d : Status). answered d h.blamed) a.1) (says_blames (refusal_text too_long) h.mid new h.blamed q) q
+          row_told blame words old new status h Shelf (refusal_text too_long) a.0 a.1
 
-      by : (p : Plan) → h.plan ≡ p → (got : List Call) → GetsFor old.shelf.file (files_of c) new.shelf.taken p got → RefusedAsLong old new status
+      by : (p : Plan) → h.plan ≡ p → (got : List Call) → GetsFor old.shelf.file (files_of c) new.shelf.taken p got → RefusedWith Shelf (refusal_text too_long) old new status
       by p e got (all _ n t) = absurd (t some taken)
       by p e got (up_to before after name x s l t) = refused e
   long_files_are_refused words c old new status is some (no_file d k g) taken = absurd (g.few taken)
@@ -232,7 +213,7 @@ module _ (blame : ScriptsBlame) where
   runs_end words old new status p told comes runs f (done _ h) m =
       subst IsRunStatus (sym (status_due words old new status h (none_blamed words old new status h f)))
       (run_due p h.mid h.script h.due (subst (λ (d : Drive). IsRun p d.size) (sym (mid_disk blame words old new status h).0) runs) (plan_asks words old new status h p told comes))
-  runs_end words old new status p told comes runs f (no_file c is g) m = absurd (no_file_failed words c old new is f g)
+  runs_end words old new status p told comes runs f (no_file c is g) m = absurd (no_file_failed words c old new is f.shelf g)
   runs_end words old new status p told comes runs f (no_memory c is w) m = absurd (m refl)
 
   pub work_completes : WorkCompletes
@@ -247,5 +228,5 @@ module _ (blame : ScriptsBlame) where
       by (boots d s r) w a = absurd w
       by (saves d s r n) w a = absurd w
       by (resumes d s r x) w a = absurd w
-  work_completes words old new status p told comes work f (no_file c is g) m = absurd (no_file_failed words c old new is f g)
+  work_completes words old new status p told comes work f (no_file c is g) m = absurd (no_file_failed words c old new is f.shelf g)
   work_completes words old new status p told comes work f (no_memory c is w) m = absurd (m refl)

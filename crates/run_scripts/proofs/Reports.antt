@@ -8,22 +8,22 @@ use Rattle.layer_map.specs.Map.{Map}
 use Rattle.mips_table.specs.Machine.{State}
 use Rattle.mips_table.specs.Flat.{Flat}
 use Rattle.cvm_model.specs.Cvm.{Cvm, IsCvm, Status, Running, Halted, Faulted, map_of}
-use Rattle.cvm_model.specs.Kernel.{JournalEntry, parts_of}
+use Rattle.cvm_model.specs.Kernel.{JournalEntry, parts_of_value}
 use Rattle.cvm_model.specs.Primitives.{no_flat, pages_of, user_of}
 use Rattle.cvm_model.specs.Stands.{UserFits}
 use Rattle.cvm_model.specs.Text.{rows_text, fault_name, globals_text, log_text, memory_text, hex_row, user_text, users_text, report_text, closing_text, start_row, journal_rows, open_journal_rows, trace_end}
-use Rattle.boot_turns.specs.TurnEnds.{RestsAfter, first_of}
+use Rattle.boot_turns.specs.TurnEnds.{RestsAfter, first_user_machine}
 use Rattle.boot_turns.specs.declared.answers.View.{View}
 use Rattle.boot_turns.specs.declared.answers.View.TheVariants.{Boot, Trace}
 use Rattle.cvm_outside.specs.Script.{Call, scripts}
 use Rattle.boot_turns.specs.Runs.{Run, Past, IsPast, state_at, turns_at, steps_made, has_ended, lines_met, cvm_at}
-use Rattle.boot_turns.specs.StepScript.{page_reads, page_of, steps_script}
+use Rattle.boot_turns.specs.StepScript.{reads_of_page, page_of, steps_script}
 use Rattle.boot_run.specs.RunEnds.{SeesUser}
-use Rattle.boot_run.specs.Closing.{opening_script, page_script, cpu_text, user_script, boot_report, last_steps, trace_report, report_by, closing_script, says}
+use Rattle.boot_run.specs.Closing.{opening_script, page_report_script, cpu_text, user_report_script, boot_report, last_steps, trace_report, report_by, closing_script, says}
 use Rattle.boot_run.specs.RunScript.{rest_script, run_script}
 use Rattle.run_scripts.specs.Headline.{text_by, text_at, ended_text, whole_text}
-use Rattle.run_scripts.proofs.Pasts.{Known, first_is}
-use Rattle.run_scripts.proofs.Tells.{Tells, tells_none, tells_both, tells_scripts, says_tells, silent, quiet_reads, steps_tell, opening_tells}
+use Rattle.run_scripts.proofs.RowsAlongRuns.{Known, first_is}
+use Rattle.run_scripts.proofs.ScriptsTell.{Tells, tells_none, tells_both, tells_scripts, says_tells, silent, quiet_reads, steps_tell, opening_tells}
 
 -- A USER
 memory-append : (k : ℕ) (a b : List ℕ) → memory_text k (a ++ b) ≡ memory_text k a ++ memory_text (k + length a) b
@@ -41,7 +41,7 @@ users-append u (f ∷ a) b =
     ∙ sym (append_assoc (user_text u f) (users_text (u + 1) a) (users_text (u + suc (length a)) b))
 
 module _ (m : Map) (s : State) (u : ℕ) (f : Flat) (whole : length f.words ≡ 1024 * pages_of f) where
-  page_tells : (old : List ℕ) (p : ℕ) → p < pages_of f → Tells (page_script m s u f p) (old ++ memory_text 0 (take (1024 * p) f.words)) (old ++ memory_text 0 (take (1024 * suc p) f.words))
+  page_tells : (old : List ℕ) (p : ℕ) → p < pages_of f → Tells (page_report_script m s u f p) (old ++ memory_text 0 (take (1024 * p) f.words)) (old ++ memory_text 0 (take (1024 * suc p) f.words))
   page_tells old p lt =
       let before : List ℕ = take (1024 * p) f.words in
       let page : List ℕ = take 1024 (drop (1024 * p) f.words) in
@@ -52,28 +52,28 @@ module _ (m : Map) (s : State) (u : ℕ) (f : Flat) (whole : length f.words ≡ 
       ∙ memory-append 0 (take (1024 * p) f.words) (take 1024 (drop (1024 * p) f.words))
       ∙ ap (λ (n : ℕ). memory_text 0 (take (1024 * p) f.words) ++ memory_text n (take 1024 (drop (1024 * p) f.words))) many in
       let h = says_tells (memory_text (1024 * p) page) (old ++ memory_text 0 before) in
-      tells_both (page_reads m s (page_of m u p)) (says (memory_text (1024 * p) page)) (old ++ memory_text 0 before) (old ++ memory_text 0 before) (old ++ memory_text 0 (take (1024 * suc p) f.words))
-      (silent (page_reads m s (page_of m u p)) (old ++ memory_text 0 before) (quiet_reads m s (page_of m u p)))
+      tells_both (reads_of_page m s (page_of m u p)) (says (memory_text (1024 * p) page)) (old ++ memory_text 0 before) (old ++ memory_text 0 before) (old ++ memory_text 0 (take (1024 * suc p) f.words))
+      (silent (reads_of_page m s (page_of m u p)) (old ++ memory_text 0 before) (quiet_reads m s (page_of m u p)))
       (record { text = h.text; told = h.told; is = ap (λ (l : List ℕ). old ++ l) grown ∙ sym (append_assoc old (memory_text 0 before) (memory_text (1024 * p) page)) ∙ h.is })
 
-  user_tells : (old : List ℕ) → Tells (user_script m s u f) old (old ++ user_text u f)
+  user_tells : (old : List ℕ) → Tells (user_report_script m s u f) old (old ++ user_text u f)
   user_tells old =
       let cpu : List ℕ = cpu_text u f in
       let all : memory_text 0 (take (1024 * pages_of f) f.words) ≡ memory_text 0 f.words = ap (memory_text 0) (take_all (1024 * pages_of f) f.words (omega (arith, whole))) in
-      let pages = tells_scripts (page_script m s u f) (λ p. (old ++ cpu_text u f) ++ memory_text 0 (take (1024 * p) f.words)) (pages_of f) (λ p lt. page_tells (old ++ cpu_text u f) p lt) in
+      let pages = tells_scripts (page_report_script m s u f) (λ p. (old ++ cpu_text u f) ++ memory_text 0 (take (1024 * p) f.words)) (pages_of f) (λ p lt. page_tells (old ++ cpu_text u f) p lt) in
       let there : (old ++ cpu_text u f) ++ memory_text 0 (take (1024 * pages_of f) f.words) ≡ old ++ user_text u f =
       ap (λ (l : List ℕ). (old ++ cpu_text u f) ++ l) all ∙ append_assoc old (cpu_text u f) (memory_text 0 f.words) in
-      tells_both (says cpu) (scripts (page_script m s u f) (pages_of f)) old (old ++ cpu) (old ++ user_text u f) (says_tells cpu old)
+      tells_both (says cpu) (scripts (page_report_script m s u f) (pages_of f)) old (old ++ cpu) (old ++ user_text u f) (says_tells cpu old)
       (record { text = pages.text; told = pages.told; is = sym there ∙ pages.is ∙ ap (λ (l : List ℕ). l ++ pages.text) (append-nil (old ++ cpu_text u f)) })
 
 users_tell : (m : Map) (s : State) (most : ℕ) (users : List Flat) → All (UserFits most) users → (old : List ℕ) →
-    Tells (scripts (λ i. user_script m s (i + 1) (user_of users (i + 1))) (length users)) old (old ++ users_text 1 users)
+    Tells (scripts (λ i. user_report_script m s (i + 1) (user_of users (i + 1))) (length users)) old (old ++ users_text 1 users)
 users_tell m s most users fits old =
-    let h = tells_scripts (λ i. user_script m s (i + 1) (user_of users (i + 1))) (λ i. old ++ users_text 1 (take i users)) (length users) (λ i lt. one i lt) in
+    let h = tells_scripts (λ i. user_report_script m s (i + 1) (user_of users (i + 1))) (λ i. old ++ users_text 1 (take i users)) (length users) (λ i lt. one i lt) in
     let all : users_text 1 (take (length users) users) ≡ users_text 1 users = ap (users_text 1) (take_all (length users) users (omega arith)) in
     record { text = h.text; told = h.told; is = ap (λ (l : List ℕ). old ++ l) (sym all) ∙ h.is ∙ ap (λ (l : List ℕ). l ++ h.text) (append-nil old) }
   where
-    one : (i : ℕ) → i < length users → Tells (user_script m s (i + 1) (user_of users (i + 1))) (old ++ users_text 1 (take i users)) (old ++ users_text 1 (take (suc i) users))
+    one : (i : ℕ) → i < length users → Tells (user_report_script m s (i + 1) (user_of users (i + 1))) (old ++ users_text 1 (take i users)) (old ++ users_text 1 (take (suc i) users))
     one i lt =
         let at : i + 1 - 1 ≡ i = omega arith in
         let next : suc i ≡ i + 1 = omega arith in
@@ -112,18 +112,18 @@ module _ (r : Run) (k : Known r) (p : Past) (is : IsPast r p) where
 
   -- THE REPORT of a boot
   ended_tells : (end old : List ℕ) → has_ended r ≡ true →
-      Tells (says (end ++ globals_text r.system.boot.meaning.names (parts_of (cvm_at r p (steps_made r)).core.c0.global_values) ++ log_text (cvm_at r p (steps_made r)).core.console.log)
-      ++ scripts (λ i. user_script (map_of r.system.boot) (state_at r (steps_made r)) (i + 1) (user_of (cvm_at r p (steps_made r)).core.users (i + 1))) (length (cvm_at r p (steps_made r)).core.users))
+      Tells (says (end ++ globals_text r.system.boot.meaning.names (parts_of_value (cvm_at r p (steps_made r)).core.c0.global_values) ++ log_text (cvm_at r p (steps_made r)).core.console.log)
+      ++ scripts (λ i. user_report_script (map_of r.system.boot) (state_at r (steps_made r)) (i + 1) (user_of (cvm_at r p (steps_made r)).core.users (i + 1))) (length (cvm_at r p (steps_made r)).core.users))
       old (old ++ (end ++ report_text r.system.boot.meaning.names (cvm_at r p (steps_made r)).core))
   ended_tells end old e =
       let c : Cvm = cvm_at r p (steps_made r) in
-      let g : List ℕ = globals_text r.system.boot.meaning.names (parts_of c.core.c0.global_values) in
+      let g : List ℕ = globals_text r.system.boot.meaning.names (parts_of_value c.core.c0.global_values) in
       let l : List ℕ = log_text c.core.console.log in
       let us : List ℕ = users_text 1 c.core.users in
       let users = users_tell (map_of r.system.boot) (state_at r (steps_made r)) (map_of r.system.boot).params.pages c.core.users (users_fit e) (old ++ (end ++ g ++ l)) in
       let seam : old ++ (end ++ (g ++ l ++ us)) ≡ old ++ (end ++ g ++ l) ++ us =
       ap (λ (x : List ℕ). old ++ x) (ap (λ (x : List ℕ). end ++ x) (append_assoc g l us) ∙ sym (append_assoc end g (l ++ us)) ∙ sym (append_assoc (end ++ g) l us)) ∙ sym (append_assoc old (end ++ g ++ l) us) in
-      tells_both (says (end ++ g ++ l)) (scripts (λ i. user_script (map_of r.system.boot) (state_at r (steps_made r)) (i + 1) (user_of c.core.users (i + 1))) (length c.core.users))
+      tells_both (says (end ++ g ++ l)) (scripts (λ i. user_report_script (map_of r.system.boot) (state_at r (steps_made r)) (i + 1) (user_of c.core.users (i + 1))) (length c.core.users))
       old (old ++ (end ++ g ++ l)) (old ++ (end ++ (g ++ l ++ us))) (says_tells (end ++ g ++ l) old)
       (record { text = users.text; told = users.told; is = seam ∙ users.is })
 
@@ -142,7 +142,7 @@ module _ (r : Run) (k : Known r) (p : Past) (is : IsPast r p) where
       ap (λ (l : List ℕ). row ++ l ++ rest) (rows_end j) ∙ ap (λ (l : List ℕ). l ++ rest) (sym (append_assoc row (open_journal_rows j) (last_steps j))) ∙ append_assoc (row ++ open_journal_rows j) (last_steps j) rest
 
   user_end : (u : ℕ) → 1 ≤ u → u ≤ length (cvm_at r p (steps_made r)).core.users → (end : List ℕ) → has_ended r ≡ true → (row : List ℕ) (j : List JournalEntry) →
-      Tells (says (last_steps j ++ end) ++ user_script (map_of r.system.boot) (state_at r (steps_made r)) u (user_of (cvm_at r p (steps_made r)).core.users u)) (row ++ open_journal_rows j)
+      Tells (says (last_steps j ++ end) ++ user_report_script (map_of r.system.boot) (state_at r (steps_made r)) u (user_of (cvm_at r p (steps_made r)).core.users u)) (row ++ open_journal_rows j)
       (row ++ journal_rows j ++ (end ++ user_text u (user_of (cvm_at r p (steps_made r)).core.users u)))
   user_end u some most end e row j =
       let f : Flat = user_of (cvm_at r p (steps_made r)).core.users u in
@@ -151,7 +151,7 @@ module _ (r : Run) (k : Known r) (p : Past) (is : IsPast r p) where
       let h = user_tells (map_of r.system.boot) (state_at r (steps_made r)) u f whole (old ++ (last_steps j ++ end)) in
       let seam : row ++ journal_rows j ++ (end ++ user_text u f) ≡ old ++ (last_steps j ++ end) ++ user_text u f =
       behind_last row (end ++ user_text u f) j ∙ ap (λ (l : List ℕ). old ++ l) (sym (append_assoc (last_steps j) end (user_text u f))) ∙ sym (append_assoc old (last_steps j ++ end) (user_text u f)) in
-      tells_both (says (last_steps j ++ end)) (user_script (map_of r.system.boot) (state_at r (steps_made r)) u f) old (old ++ (last_steps j ++ end)) (row ++ journal_rows j ++ (end ++ user_text u f))
+      tells_both (says (last_steps j ++ end)) (user_report_script (map_of r.system.boot) (state_at r (steps_made r)) u f) old (old ++ (last_steps j ++ end)) (row ++ journal_rows j ++ (end ++ user_text u f))
       (says_tells (last_steps j ++ end) old) (record { text = h.text; told = h.told; is = seam ∙ h.is })
 
   trace_tells : (u : ℕ) → 1 ≤ u → u ≤ length (cvm_at r p (steps_made r)).core.users → (st : Status) → has_ended r ≡ true → (row : List ℕ) (j : List JournalEntry) →
@@ -171,7 +171,7 @@ module _ (r : Run) (k : Known r) (p : Past) (is : IsPast r p) where
       by : (v : View) → SeesUser v (length r.system.boot.users) → Tells (report_by v r p (steps_made r)) (text_by v r p (steps_made r)) (ended_text v r p (steps_made r))
       by Boot see = report_tells (cvm_at r p (steps_made r)).status e (rows_text (cvm_at r p (steps_made r)).rows)
       by (Trace u) see =
-          trace_tells u see.0 (let n = users_many e in let m = see.1 in omega (arith, n, m)) (cvm_at r p (steps_made r)).status e (start_row u (first_of r.system u)) (p.shown (steps_made r))
+          trace_tells u see.0 (let n = users_many e in let m = see.1 in omega (arith, n, m)) (cvm_at r p (steps_made r)).status e (start_row u (first_user_machine r.system u)) (p.shown (steps_made r))
 
   -- FROM A STEP ON, and the whole run
   pub rest_tells : (t : ℕ) → t ≤ steps_made r → Tells (rest_script r p t) (text_at r p t) (whole_text r p)

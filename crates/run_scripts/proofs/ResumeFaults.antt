@@ -8,7 +8,7 @@ use Rattle.cvm_outside.specs.Told.{AppendsPart}
 use Rattle.cvm_outside.specs.Outside.{Outside, Output, Drive}
 use Rattle.cvm_outside.specs.Script.{Call, Who, TheSink, TheDisk, TheShelf, Performs, WritesNoSector, sectors_after}
 use Rattle.cvm_outside.specs.ScriptLaws.{ScriptsTell, ScriptsStore}
-use Rattle.cvm_outside.proofs.Putting.{unwritten}
+use Rattle.cvm_outside.proofs.RowsPut.{unwritten}
 use Rattle.kernel_linker.specs.Accept.{ImageSystem}
 use Rattle.mips_machine.specs.Steps.{script_of_step}
 use Rattle.mips_table.specs.Turns.{is_end, end_within}
@@ -31,21 +31,21 @@ use Rattle.run_scripts.specs.Faults.{Stand, PrintedBehind, BeginsBehind, AfterRe
 use Rattle.run_scripts.specs.Headline.{Asked, ended_text, text_at, whole_text}
 use Rattle.run_scripts.specs.Keys.{ScriptLaws}
 use Rattle.run_scripts.specs.Saving.{GoesOnAsBoot}
-use Rattle.run_scripts.proofs.Broken.{Broken, in_first, in_second, part, within, not_none, blames}
+use Rattle.run_scripts.proofs.BrokenScripts.{Broken, in_first, in_second, part, within, not_none, blames}
 use Rattle.run_scripts.proofs.FaultLaws.{Three, Four, of_three, not_shelf, not_memory, spent}
-use Rattle.run_scripts.proofs.Joins.{resumes_join}
-use Rattle.run_scripts.proofs.Keys.{known}
-use Rattle.run_scripts.proofs.MadeOf.{of_report, of_rows}
-use Rattle.run_scripts.proofs.Pasts.{Known}
-use Rattle.run_scripts.proofs.Performed.{says_text}
-use Rattle.run_scripts.proofs.Rejoining.{with_disk, other_disk}
+use Rattle.run_scripts.proofs.ResumeScripts.{resumes_join}
+use Rattle.run_scripts.proofs.RunKeys.{known}
+use Rattle.run_scripts.proofs.ScriptsMadeOf.{of_report, of_rows}
+use Rattle.run_scripts.proofs.RowsAlongRuns.{Known}
+use Rattle.run_scripts.proofs.PerformedScripts.{says_text}
+use Rattle.run_scripts.proofs.OtherDisks.{with_disk, other_disk}
 use Rattle.run_scripts.proofs.Reports.{rest_tells}
 use Rattle.run_scripts.proofs.RunFaults.{disk_due}
-use Rattle.run_scripts.proofs.Skips.{no_later}
+use Rattle.run_scripts.proofs.TurnsRise.{no_later}
 use Rattle.run_scripts.proofs.StoredRuns.{quiet, steps_leave, rest_leaves}
-use Rattle.run_scripts.proofs.Stores.{step_stores}
-use Rattle.run_scripts.proofs.Taken.{machine_is_read}
-use Rattle.run_scripts.proofs.Tells.{Tells, steps_tell}
+use Rattle.run_scripts.proofs.ScriptsStore.{step_stores}
+use Rattle.run_scripts.proofs.ResumedMachines.{machine_is_read}
+use Rattle.run_scripts.proofs.ScriptsTell.{Tells, steps_tell}
 
 not_disk : TheSink ≡ TheDisk → ⊥
 not_disk e = cc

@@ -16,17 +16,17 @@ use Rattle.boot_turns.specs.Runs.{Run, state_at, steps_made, has_ended}
 use Rattle.run_scripts.specs.SessionRuns.{run_of}
 use Rattle.boot_run.specs.AnyScripts.{untold_rest}
 use Rattle.run_scripts.specs.Ends.{GoesOn, ResumeAsks, SomeRunAsks, done, no_file, no_memory}
-use Rattle.run_scripts.proofs.ByRuns.{ResumesGoOn}
-use Rattle.run_scripts.proofs.Calls.{report_reads}
+use Rattle.run_scripts.proofs.PromisesByRuns.{ResumesGoOn}
+use Rattle.run_scripts.proofs.ScriptCalls.{report_reads}
 use Rattle.run_scripts.proofs.Causes.{mid_disk}
 use Rattle.boot_turns.proofs.ShownRows.{scripts-same}
 use Rattle.boot_run.proofs.AbstractRuns.{on_before}
 use Rattle.boot_run.proofs.ReadingCalls.{reads_quietly}
-use Rattle.run_scripts.proofs.Performed.{leaves_sectors}
+use Rattle.run_scripts.proofs.PerformedScripts.{leaves_sectors}
 use Rattle.run_scripts.proofs.Refusals.{none_blamed, status_due, plan_asks, no_file_failed}
 use Rattle.run_scripts.proofs.Saves.{told_asks}
 use Rattle.run_scripts.proofs.Shapes.{others_stay}
-use Rattle.run_scripts.proofs.Stores.{stored-append, quiet_stores, stored_scripts, step_stores}
+use Rattle.run_scripts.proofs.ScriptsStore.{stored-append, quiet_stores, stored_scripts, step_stores}
 
 -- ONE RUN goes on from the words
 one_run : SavedOnce → (session : Session) (s : ImageSystem) (rows : Rows) (words : List ℕ) (size : ℕ) (sectors : List (List ℕ)) (r q : Run) → GoesOn session s rows words size sectors r →
@@ -82,5 +82,5 @@ resumes_go_on blame store count once words d s rows machine left old new status 
       spent = steps_spent count (save_session d) s rows machine old.disk.size left t.run t.goes_on;
       files = λ name. others_stay words (resume d) old new status is (done status h) name (none_named name);
     }
-resumes_go_on blame store count once words d s rows machine left old new status is a f (no_file c k g) m = absurd (no_file_failed blame words c old new k f g)
+resumes_go_on blame store count once words d s rows machine left old new status is a f (no_file c k g) m = absurd (no_file_failed blame words c old new k f.shelf g)
 resumes_go_on blame store count once words d s rows machine left old new status is a f (no_memory c k w) m = absurd (m refl)

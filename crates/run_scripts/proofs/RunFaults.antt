@@ -12,8 +12,8 @@ use Rattle.cvm_outside.specs.Outside.{Outside, Output}
 use Rattle.cvm_outside.specs.Script.{Call, Read, Who, TheSink, TheDisk, Performs, WritesNoSector, scripts, spoken, sectors_after}
 use Rattle.cvm_outside.specs.ScriptLaws.{ScriptsTell, ScriptsStore, PrintedBy}
 use Rattle.cvm_outside.proofs.Parts.{append_known-append}
-use Rattle.cvm_outside.proofs.Follow.{both}
-use Rattle.cvm_outside.proofs.Putting.{unwritten}
+use Rattle.cvm_outside.proofs.ScriptsFollow.{both}
+use Rattle.cvm_outside.proofs.RowsPut.{unwritten}
 use Rattle.layer_map.specs.Map.{Map}
 use Rattle.mips_table.specs.Device.{Environment, Pending, Idle, Reading, Writing}
 use Rattle.mips_table.specs.Machine.{State}
@@ -21,29 +21,29 @@ use Rattle.mips_table.specs.Turns.{IsTurnEnd, complete, is_end, is_on, end_withi
 use Rattle.mips_machine.specs.Steps.{before_count, script_of_step, due_if}
 use Rattle.sector_disk.specs.Ports.{transfer_script}
 use Rattle.cvm_model.specs.Cvm.{System, Cvm, Status, Running, Halted, Faulted, map_of}
-use Rattle.cvm_model.specs.Kernel.{JournalEntry, Put, parts_of}
+use Rattle.cvm_model.specs.Kernel.{JournalEntry, Put, parts_of_value}
 use Rattle.cvm_model.specs.Paged.{paged_of}
 use Rattle.cvm_model.specs.Primitives.{user_of}
 use Rattle.cvm_model.specs.Text.{rows_text, start_row, journal_rows, open_journal_rows, end_text, boot_text, globals_text, log_text, fault_name}
 use Rattle.boot_turns.specs.declared.answers.View.{View}
 use Rattle.boot_turns.specs.declared.answers.View.TheVariants.{Boot, Trace}
 use Rattle.boot_turns.specs.Runs.{Run, Past, IsPast, state_at, turns_at, steps_made, has_ended, cvm_at}
-use Rattle.boot_turns.specs.StepScript.{prints, page_reads, page_of, copies_at, entry_reads, row_behind, entry_script, rows_script, step_script, steps_script}
-use Rattle.boot_turns.specs.TurnEnds.{first_of}
+use Rattle.boot_turns.specs.StepScript.{prints, reads_of_page, page_of, copies_at, entry_reads, row_behind, entry_script, rows_script, step_script, steps_script}
+use Rattle.boot_turns.specs.TurnEnds.{first_user_machine}
 use Rattle.boot_run.specs.RunEnds.{SeesUser}
-use Rattle.boot_run.specs.Closing.{opening_script, user_script, boot_report, last_steps, trace_report, report_by, closing_script, says}
+use Rattle.boot_run.specs.Closing.{opening_script, user_report_script, boot_report, last_steps, trace_report, report_by, closing_script, says}
 use Rattle.boot_run.specs.RunScript.{rest_script, run_script}
 use Rattle.run_scripts.specs.Headline.{text_by, text_at, ended_text, whole_text}
 use Rattle.run_scripts.specs.Faults.{HasPrinted, PrintedWithin, Stand, closed_by, CalledBy, up_to_step, up_to_row, AfterDisk, in_load, in_transfer, in_rows, in_report, EndsTurn, AfterSink}
 use Rattle.run_scripts.specs.Faults as fault
-use Rattle.run_scripts.proofs.Broken.{AllOf, Broken, in_first, in_second, part, Within, within, not_none, blames, all_if, sink_stays, IsLoud, loud_both, loud_scripts, loud_disk, silent_stays}
-use Rattle.run_scripts.proofs.MadeOf.{of_opening, of_report, of_row, of_rows, of_scripts}
+use Rattle.run_scripts.proofs.BrokenScripts.{AllOf, Broken, in_first, in_second, part, Within, within, not_none, blames, all_if, sink_stays, IsLoud, loud_both, loud_scripts, loud_disk, silent_stays}
+use Rattle.run_scripts.proofs.ScriptsMadeOf.{of_opening, of_report, of_row, of_rows, of_scripts}
 use Rattle.boot_run.proofs.AbstractRuns.{on_before, turns_up_to}
-use Rattle.run_scripts.proofs.Pasts.{Known, journal_grows}
+use Rattle.run_scripts.proofs.RowsAlongRuns.{Known, journal_grows}
 use Rattle.run_scripts.proofs.Reports.{closing_tells, behind_last}
 use Rattle.run_scripts.proofs.StoredRuns.{quiet, steps_leave}
-use Rattle.run_scripts.proofs.Stores.{quiet_stores, step_stores, stored-append}
-use Rattle.run_scripts.proofs.Tells.{Tells, tells_both, tells_scripts, says_tells, silent, quiet_due, entry_tells, step_tells, steps_tell, opening_tells}
+use Rattle.run_scripts.proofs.ScriptsStore.{quiet_stores, step_stores, stored-append}
+use Rattle.run_scripts.proofs.ScriptsTell.{Tells, tells_both, tells_scripts, says_tells, silent, quiet_due, entry_tells, step_tells, steps_tell, opening_tells}
 
 -- WHAT STANDS so far: this text was printed, and these are the sectors
 pub record Stands (old at : Outside) (text : List ℕ) (sectors : List (List ℕ)) : Type 0 where
@@ -103,7 +103,7 @@ disk_due x s = by s.off
     by None = disk_transfer (before_count x s).pending (before_count x s).buffer
     by (Some word) = tt
 
-disk_page : (m : Map) (s : State) (q : ℕ) → AllOf TheDisk (page_reads m s q)
+disk_page : (m : Map) (s : State) (q : ℕ) → AllOf TheDisk (reads_of_page m s q)
 disk_page m s q = by ((paged_of m s).entry q / 2048 % 2 == 1)
   where
     by : (b : Bool) → AllOf TheDisk (if b then [] else Read q ∷ [])
@@ -141,13 +141,13 @@ loud_rows (Trace u) r p t =
 
 -- what stands behind the end row of a boot
 abbrev globals : System → Cvm → List ℕ
-globals y c = globals_text y.boot.meaning.names (parts_of c.core.c0.global_values)
+globals y c = globals_text y.boot.meaning.names (parts_of_value c.core.c0.global_values)
 
 abbrev log : Cvm → List ℕ
 log c = log_text c.core.console.log
 
 abbrev users : System → State → Cvm → List Call
-users y s c = scripts (λ i. user_script (map_of y.boot) s (i + 1) (user_of c.core.users (i + 1))) (length c.core.users)
+users y s c = scripts (λ i. user_report_script (map_of y.boot) s (i + 1) (user_of c.core.users (i + 1))) (length c.core.users)
 
 front_of : (base end g l : List ℕ) → base ++ (end ++ g ++ l) ≡ (base ++ end) ++ (g ++ l)
 front_of base end g l = ap (λ (x : List ℕ). base ++ x) (append_assoc end g l) ∙ sym (append_assoc base end (g ++ l))
@@ -271,17 +271,17 @@ module _ (r : Run) (k : Known r) (p : Past) (is : IsPast r p) where
             let g = journal_grows r k p is u some most v t lt in
             ap (λ (m : ℕ). take m (p.shown (suc t))) none ∙ ap (take (length (p.shown t))) g.1 ∙ take-append_seam (p.shown t) g.0
 
-        rows : Tells (scripts (λ i. entry_script r p u t (length (p.shown t) + i)) w.number) (start_row u (first_of r.system u) ++ open_journal_rows (p.shown t)) (start_row u (first_of r.system u) ++ open_journal_rows (take (length (p.shown t) + w.number) (p.shown (suc t))))
+        rows : Tells (scripts (λ i. entry_script r p u t (length (p.shown t) + i)) w.number) (start_row u (first_user_machine r.system u) ++ open_journal_rows (p.shown t)) (start_row u (first_user_machine r.system u) ++ open_journal_rows (take (length (p.shown t) + w.number) (p.shown (suc t))))
         rows =
             let l = w.less in
-            subst (λ (j : List JournalEntry). Tells (scripts (λ i. entry_script r p u t (length (p.shown t) + i)) w.number) (start_row u (first_of r.system u) ++ open_journal_rows j) (start_row u (first_of r.system u) ++ open_journal_rows (take (length (p.shown t) + w.number) (p.shown (suc t))))) from
-            (tells_scripts (λ i. entry_script r p u t (length (p.shown t) + i)) (λ i. start_row u (first_of r.system u) ++ open_journal_rows (take (length (p.shown t) + i) (p.shown (suc t)))) w.number
-            (λ i before. entry_tells r k p is u some most v t i (start_row u (first_of r.system u)) (omega (arith, before, l))))
+            subst (λ (j : List JournalEntry). Tells (scripts (λ i. entry_script r p u t (length (p.shown t) + i)) w.number) (start_row u (first_user_machine r.system u) ++ open_journal_rows j) (start_row u (first_user_machine r.system u) ++ open_journal_rows (take (length (p.shown t) + w.number) (p.shown (suc t))))) from
+            (tells_scripts (λ i. entry_script r p u t (length (p.shown t) + i)) (λ i. start_row u (first_user_machine r.system u) ++ open_journal_rows (take (length (p.shown t) + i) (p.shown (suc t)))) w.number
+            (λ i before. entry_tells r k p is u some most v t i (start_row u (first_user_machine r.system u)) (omega (arith, before, l))))
 
-        printed : HasPrinted old w.mid (start_row u (first_of r.system u) ++ open_journal_rows (take (length (p.shown t) + w.number) (p.shown (suc t))))
+        printed : HasPrinted old w.mid (start_row u (first_user_machine r.system u) ++ open_journal_rows (take (length (p.shown t) + w.number) (p.shown (suc t))))
         printed =
-            text_more tell store old (scripts (λ i. entry_script r p u t (length (p.shown t) + i)) w.number) at w.mid (start_row u (first_of r.system u) ++ open_journal_rows (p.shown t))
-            (start_row u (first_of r.system u) ++ open_journal_rows (take (length (p.shown t) + w.number) (p.shown (suc t)))) h.text_is w.before rows
+            text_more tell store old (scripts (λ i. entry_script r p u t (length (p.shown t) + i)) w.number) at w.mid (start_row u (first_user_machine r.system u) ++ open_journal_rows (p.shown t))
+            (start_row u (first_user_machine r.system u) ++ open_journal_rows (take (length (p.shown t) + w.number) (p.shown (suc t)))) h.text_is w.before rows
 
         stand : Stand r (suc t) w.mid
         stand =
@@ -362,10 +362,10 @@ module _ (r : Run) (k : Known r) (p : Past) (is : IsPast r p) where
     trace_closed mid new s c u row j whole all (Faulted f) h w e q =
         absurd (not_disk (sym (blames TheSink (says (last_steps j ++ codes "fault " ++ fault_name f ++ codes "\n")) mid new TheDisk (refl, tt) q)))
     trace_closed mid new s c u row j whole all Running h w e q =
-        behind_first mid new (row ++ open_journal_rows j) (last_steps j ++ end_text Running) (row ++ journal_rows j ++ end_text Running) [] whole all (user_script (map_of r.system.boot) s u (user_of c.core.users u)) h w
+        behind_first mid new (row ++ open_journal_rows j) (last_steps j ++ end_text Running) (row ++ journal_rows j ++ end_text Running) [] whole all (user_report_script (map_of r.system.boot) s u (user_of c.core.users u)) h w
         (sym (behind_last r k p is row (end_text Running) j) ∙ sym (append-nil (row ++ journal_rows j ++ end_text Running))) e q
     trace_closed mid new s c u row j whole all Halted h w e q =
-        behind_first mid new (row ++ open_journal_rows j) (last_steps j ++ end_text Halted) (row ++ journal_rows j ++ end_text Halted) [] whole all (user_script (map_of r.system.boot) s u (user_of c.core.users u)) h w
+        behind_first mid new (row ++ open_journal_rows j) (last_steps j ++ end_text Halted) (row ++ journal_rows j ++ end_text Halted) [] whole all (user_report_script (map_of r.system.boot) s u (user_of c.core.users u)) h w
         (sym (behind_last r k p is row (end_text Halted) j) ∙ sym (append-nil (row ++ journal_rows j ++ end_text Halted))) e q
 
     report_closed : (mid new : Outside) → has_ended r ≡ true → HasPrinted old mid (text_at r p (steps_made r)) → Performs (closing_script r p) mid new (Some TheDisk) → PrintedWithin old new (closed_by r.view r p) (whole_text r p)
@@ -377,7 +377,7 @@ module _ (r : Run) (k : Known r) (p : Past) (is : IsPast r p) where
             boot_closed mid new (state_at r (steps_made r)) (cvm_at r p (steps_made r)) (rows_text (cvm_at r p (steps_made r)).rows) (boot_text r.system (cvm_at r p (steps_made r))) (whole_text r p)
             (cvm_at r p (steps_made r)).status h w e q
         by (Trace u) h w e q =
-            trace_closed mid new (state_at r (steps_made r)) (cvm_at r p (steps_made r)) u (start_row u (first_of r.system u)) (p.shown (steps_made r)) (ended_text (Trace u) r p (steps_made r)) (whole_text r p)
+            trace_closed mid new (state_at r (steps_made r)) (cvm_at r p (steps_made r)) u (start_row u (first_user_machine r.system u)) (p.shown (steps_made r)) (ended_text (Trace u) r p (steps_made r)) (whole_text r p)
             (cvm_at r p (steps_made r)).status h w e q
 
     pub report_undone : (R : Type 0) (load : List Call) (mid new : Outside) → CalledBy (up_to_step r load p (steps_made r)) old mid → R → has_ended r ≡ true → At (steps_made r) mid → Performs (closing_script r p) mid new (Some TheDisk) → AfterDisk R r load p old new

@@ -10,18 +10,17 @@ use Rattle.boot_turns.specs.declared.answers.View.{View}
 use Rattle.boot_turns.specs.declared.answers.View.TheVariants.{Boot}
 use Rattle.boot_turns.specs.Runs.{Run, Past, IsPast, state_at, steps_made, has_ended, cvm_at}
 use Rattle.boot_turns.specs.StepScript.{steps_script}
-use Rattle.run_scripts.specs.Saves.{saved_row}
 use Rattle.boot_run.specs.Closing.{opening_script, closing_script}
-use Rattle.run_scripts.specs.RunStatus.{saved_bytes, leaving_script, save_script}
+use Rattle.boot_run.specs.RunScript.{saved_row, saved_bytes, leaving_script, save_script}
 use Rattle.run_scripts.specs.Headline.{text_at}
 use Rattle.run_scripts.specs.Shapes.{gets_in, puts_in}
 use Rattle.run_scripts.specs.Faults.{HasPrinted, PrintedWithin, Stand, AfterDisk, AfterSink, CalledBy, up_to_step, IsLeft, IsReported}
-use Rattle.run_scripts.proofs.Broken.{AllOf, Broken, in_first, in_second, both_done, part, nothing_blames, not_none}
-use Rattle.run_scripts.proofs.Calls.{Plain, plain, plain_both, plain_write, plain_stays}
-use Rattle.run_scripts.proofs.MadeOf.{of_report, of_steps}
-use Rattle.run_scripts.proofs.Pasts.{Known}
+use Rattle.run_scripts.proofs.BrokenScripts.{AllOf, Broken, in_first, in_second, both_done, part, nothing_blames, not_none}
+use Rattle.run_scripts.proofs.ScriptCalls.{Plain, plain, plain_both, plain_write, plain_stays}
+use Rattle.run_scripts.proofs.ScriptsMadeOf.{of_report, of_steps}
+use Rattle.run_scripts.proofs.RowsAlongRuns.{Known}
 use Rattle.run_scripts.proofs.RunFaults.{Stands, steps_done, steps_unsaid, steps_undone, report_unsaid, report_undone, loaded, load_undone, load_said, broken_within}
-use Rattle.run_scripts.proofs.Tells.{Tells, says_tells, opening_tells}
+use Rattle.run_scripts.proofs.ScriptsTell.{Tells, says_tells, opening_tells}
 
 -- no shelf fails in scripts that call none
 spares_by : (a : List Call) (old new : Outside) (b : Option Who) → gets_in a ≡ [] → puts_in a ≡ [] → Performs a old new b → b ≡ Some TheShelf → ⊥

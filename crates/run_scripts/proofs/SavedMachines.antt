@@ -24,11 +24,10 @@ use Rattle.boot_run.proofs.SavedFiles.{MachineLaws, of_system}
 use Rattle.kernel_linker.specs.Accept.{ImageSystem}
 use Rattle.run_scripts.specs.Boot.{booted}
 use Rattle.run_scripts.specs.Plan.{wanted_by}
-use Rattle.boot_run.specs.RunScript.{saved_words}
-use Rattle.run_scripts.specs.RunStatus.{saved_bytes}
+use Rattle.boot_run.specs.RunScript.{saved_words, saved_bytes}
 use Rattle.run_scripts.specs.Faults.{IsLeft}
-use Rattle.run_scripts.proofs.Pasts.{Known}
-use Rattle.run_scripts.proofs.Skips.{steps_within}
+use Rattle.run_scripts.proofs.RowsAlongRuns.{Known}
+use Rattle.run_scripts.proofs.TurnsRise.{steps_within}
 
 -- A RUN THAT IS LEFT stands where its turns are complete, and its machine runs a user
 on_of : (o : Option ℕ) (user : Bool) → (not (is_some o) && user) ≡ true → o ≡ None

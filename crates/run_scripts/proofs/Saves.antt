@@ -14,14 +14,14 @@ use Rattle.cvm_outside.specs.Script.{Call}
 use Rattle.boot_turns.specs.Runs.{Run}
 use Rattle.run_scripts.specs.Boot.{sectors_needed}
 use Rattle.run_scripts.specs.SessionRuns.{run_of}
-use Rattle.run_scripts.specs.RunStatus.{save_script}
-use Rattle.run_scripts.specs.Ends.{done, no_file, no_memory, SessionAsks, no_user, small, over_told, over_untold, RunAsks, SomeSaveAsks, load_of}
+use Rattle.run_scripts.specs.Ends.{done, no_file, no_memory, SessionAsks, no_user, small, over_told, over_untold, RunAsks, SomeSaveAsks, session_load}
 use Rattle.run_scripts.specs.Headline.{Asked}
-use Rattle.run_scripts.proofs.ByRuns.{SavesComplete}
+use Rattle.run_scripts.proofs.PromisesByRuns.{SavesComplete}
 use Rattle.run_scripts.proofs.Causes.{mid_disk}
 use Rattle.run_scripts.proofs.Completes.{run_done}
-use Rattle.run_scripts.specs.Keys.{RunLaws}
+use Rattle.run_scripts.specs.Keys.{LawsOfRuns}
 use Rattle.run_scripts.proofs.Refusals.{none_blamed, status_due, plan_asks, no_file_failed}
+use Rattle.boot_run.specs.RunScript.{save_script}
 
 same_some : (a b : List (List ℕ)) → Some a ≡ Some b → a ≡ b
 same_some a b e = cc
@@ -43,14 +43,14 @@ told_asks words plan session s rows before old mid T S script due a k (over_told
     subst (λ (d : Drive). T d.size before script due) k (subst (λ (x : List (List ℕ)). T mid.disk.size x script due) f t)
 told_asks words plan session s rows before old mid T S script due a k (over_untold _ _ v n q t) = absurd (none_told before (sym q ∙ ap (λ (d : Drive). d.sectors) k ∙ a.sectors))
 
-pub saves_complete : ScriptsBlame → RunLaws → SavesComplete
+pub saves_complete : ScriptsBlame → LawsOfRuns → SavesComplete
 saves_complete blame law words c s rows before old new status is a f (done _ h) m enough =
     let r : Run = run_of (save_session c) s rows old.disk.size before in
     let w = law.start words _ (save_session c) s rows before old a in
     let runs = law.machines s.unit _ _ _ w.late _ w.starts in
     let asks = plan_asks blame words old new status h (saves (save_session c) s rows c.file) a.files a.is_plan in
-    let t = told_asks words _ (save_session c) s rows before old h.mid (λ size ss. RunAsks (run_of (save_session c) s rows size ss) (λ r. save_script c.file r (load_of (save_session c) s rows)))
-    (SomeSaveAsks c.file (load_of (save_session c) s rows)) h.script h.due a (mid_disk blame words old new status h).0 asks in
+    let t = told_asks words _ (save_session c) s rows before old h.mid (λ size ss. RunAsks (run_of (save_session c) s rows size ss) (λ r. save_script c.file r (session_load (save_session c) s rows)))
+    (SomeSaveAsks c.file (session_load (save_session c) s rows)) h.script h.due a (mid_disk blame words old new status h).0 asks in
     let g = runs.goes_on r.turns enough.last enough.defined in
     let le = g.2 in
     let late = w.within in
@@ -60,5 +60,5 @@ saves_complete blame law words c s rows before old new status is a f (done _ h) 
     by : {x : Status} → (x ≡ Done) ⊎ (x ≡ KernelFault) → status ≡ x → (status ≡ Done) ⊎ (status ≡ KernelFault)
     by (inl d) e = inl (e ∙ d)
     by (inr d) e = inr (e ∙ d)
-saves_complete blame law words c s rows before old new status is a f (no_file d k g) m enough = absurd (no_file_failed blame words d old new k f g)
+saves_complete blame law words c s rows before old new status is a f (no_file d k g) m enough = absurd (no_file_failed blame words d old new k f.shelf g)
 saves_complete blame law words c s rows before old new status is a f (no_memory d k w) m enough = absurd (m refl)

@@ -19,10 +19,10 @@ use Rattle.schedule_file.specs.declared.row.LineRow.{LineRow}
 use Rattle.schedule_file.specs.declared.row.Row.{Row}
 use Rattle.schedule_file.specs.declared.row.Row.TheVariants.{Line, Busy, Input}
 use Rattle.schedule_file.specs.Rows.{Rows, busy_of, last_step, longest, with_row}
-use Rattle.schedule_file.specs.Schedule.{no_rows, is_late, is_too_many, limit_of, value_of, rows_of, with_line, fault_of_row, fault_of_line, first_fault, unless, schedule_of}
+use Rattle.schedule_file.specs.Schedule.{no_rows, is_late, is_too_many, limit_of, row_value, rows_of, with_line, fault_of_row, fault_of_line, first_row_fault, unless, schedule_of}
 use Rattle.schedule_file.specs.Text.{row_of}
-use Rattle.schedule_file.proofs.Reading.{one_bit}
-use Rattle.schedule_file.proofs.Sought.{eight_lines, quiet_after}
+use Rattle.schedule_file.proofs.OneLineMore.{one_bit}
+use Rattle.schedule_file.proofs.RowsSought.{eight_lines, quiet_after}
 use Rattle.boot_run.proofs.Premises.{RowsFit}
 
 -- rows in order, of eight lines, with few input words
@@ -59,9 +59,9 @@ last_below lines step late d some =
     (subst (λ (o : Option LineRow). unwrap_or (option_map (λ last. nat_lt step last.step) o) false ≡ false) there late)
 
 found_none : (rows : Rows) (number : ℕ) (row : Row) → fault_of_row rows number row ≡ None →
-    (nat_lt (limit_of row) (value_of row) ≡ false) × (is_late rows row ≡ false) × (is_too_many rows row ≡ false)
+    (nat_lt (limit_of row) (row_value row) ≡ false) × (is_late rows row ≡ false) × (is_too_many rows row ≡ false)
 found_none rows number row e =
-    none_of (nat_lt (limit_of row) (value_of row)) (is_late rows row) (is_too_many rows row) (Range number (value_of row)) (Order number) (TooManyInputs number) e
+    none_of (nat_lt (limit_of row) (row_value row)) (is_late rows row) (is_too_many rows row) (Range number (row_value row)) (Order number) (TooManyInputs number) e
 
 row_ordered : (rows : Rows) (number : ℕ) (row : Row) → fault_of_row rows number row ≡ None → Ordered rows → Ordered (with_row rows row)
 row_ordered rows number (Line step line) e h =
@@ -102,10 +102,10 @@ or_none : (a b : Option ScheduleFault) → option_or a b ≡ None → (a ≡ Non
 or_none None b e = (refl, e)
 or_none (Some x) b e = absurd (cc)
 
-lines_ordered : (before lines : List (List ℕ)) → first_fault before lines ≡ None → Ordered (rows_of before) → Ordered (rows_of (before ++ lines))
+lines_ordered : (before lines : List (List ℕ)) → first_row_fault before lines ≡ None → Ordered (rows_of before) → Ordered (rows_of (before ++ lines))
 lines_ordered before [] e h = subst Ordered (ap rows_of (sym (append-nil before))) h
 lines_ordered before (line ∷ lines) e h =
-    let t = or_none (fault_of_line (rows_of before) (length before + 1) line) (first_fault (before ++ line ∷ []) lines) e in
+    let t = or_none (fault_of_line (rows_of before) (length before + 1) line) (first_row_fault (before ++ line ∷ []) lines) e in
     let one : Ordered (rows_of (before ++ line ∷ [])) = subst Ordered (sym (fold-append with_line no_rows before (line ∷ []))) (line_ordered (rows_of before) (length before + 1) line t.0 h) in
     subst Ordered (ap rows_of (append_assoc before (line ∷ []) lines)) (lines_ordered (before ++ line ∷ []) lines t.1 one)
 
@@ -114,9 +114,9 @@ same_rows a b e = cc
 
 pub rows_ordered : (text : List ℕ) (rows : Rows) → schedule_of text ≡ Ok rows → Ordered rows
 unfolding schedule_of
-rows_ordered text rows e = by (first_fault [] (lines_of text)) refl e
+rows_ordered text rows e = by (first_row_fault [] (lines_of text)) refl e
   where
-    by : (f : Option ScheduleFault) → first_fault [] (lines_of text) ≡ f → unless f (rows_of (lines_of text)) ≡ Ok rows → Ordered rows
+    by : (f : Option ScheduleFault) → first_row_fault [] (lines_of text) ≡ f → unless f (rows_of (lines_of text)) ≡ Ok rows → Ordered rows
     by None is e = subst Ordered (same_rows _ _ e) (lines_ordered [] (lines_of text) is none_ordered)
     by (Some x) is e = absurd (cc)
 

@@ -9,16 +9,16 @@ use Rattle.cvm_outside.specs.Numbering.{called}
 use Rattle.cvm_outside.specs.Outside.{Outside, shelf_counts}
 use Rattle.cvm_outside.specs.Script.{Call, Printed, Read, Wrote, Got, Stored, Who, Performs, done as all_done, breaks, goes_on, disk_calls, shelf_calls}
 use Rattle.cvm_outside.specs.ScriptLaws.{MadeBy, ScriptsBlame, ScriptsCountFiles}
-use Rattle.cvm_outside.proofs.Follow.{both}
+use Rattle.cvm_outside.proofs.ScriptsFollow.{both}
 use Rattle.run_scripts.specs.Ends.{done, no_file, no_memory, GetsFor, all, up_to, IsNotGot, Wants}
 use Rattle.run_scripts.specs.Served.{files_of, gets, file_put}
 use Rattle.run_scripts.specs.Shapes.{PlansHaveShape, OthersStay, NothingIsLoaded, RefusalsKeepTheDisk, GetsComeFirst, ShelfIsCalled, EndsLong, were_got, ungot, wanting, gets_in, puts_in}
-use Rattle.run_scripts.proofs.Calls.{shape_of, files_stay, disk_stays, quiet_plan}
+use Rattle.run_scripts.proofs.ScriptCalls.{shape_of, files_stay, disk_stays, quiet_plan}
 use Rattle.run_scripts.proofs.Causes.{mid_disk, refusal_quiet}
-use Rattle.run_scripts.proofs.Joins.{got_keeps}
-use Rattle.run_scripts.proofs.Keeps.{wanted}
+use Rattle.run_scripts.proofs.ResumeScripts.{got_keeps}
+use Rattle.run_scripts.proofs.GetsKeep.{wanted}
 use Rattle.run_scripts.proofs.OneCommand.{one_command}
-use Rattle.run_scripts.proofs.Outcomes.{Outcome, is_none, is_refused, is_booted, is_saved, is_resumed, is_put, is_told, outcome}
+use Rattle.run_scripts.proofs.CommandOutcomes.{Outcome, is_none, is_refused, is_booted, is_saved, is_resumed, is_put, is_told, outcome}
 
 pub plans_have_shape : PlansHaveShape
 plans_have_shape words file c p at script due is comes asks = let h = shape_of words c p at script due is (outcome words file p comes) asks in record { gets = h.gets; puts = h.puts }

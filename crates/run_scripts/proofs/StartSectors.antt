@@ -10,31 +10,31 @@ use Rattle.cvm_model.specs.Cvm.{System}
 use Rattle.layer_contract.specs.Follows.{loaded, loaded_sector}
 use Rattle.layer_contract.specs.Starts.{user_sectors}
 use Rattle.boot_turns.specs.Rom.{own_rom, page_of, rom_loaded, rom_sector, rom_sectors}
-use Rattle.boot_run.specs.Loading.{words_of_page, with_page, written}
+use Rattle.boot_run.specs.Loading.{words_of_page, with_page, pages_written}
 use Rattle.boot_run.specs.LoadedPages.{disk_pages, first_pages, rom_pages, user_pages}
 use Rattle.boot_run.proofs.PageLemmas.{page_or, written_is}
 use Rattle.boot_run.proofs.UserPages.{dead_past}
 use Rattle.run_scripts.specs.declared.session.StartPoint.{StartPoint}
 use Rattle.run_scripts.specs.declared.session.StartPoint.TheVariants.{Loaded, Rom}
 use Rattle.cvm_outside.specs.Script.{Call, Wrote, scripts, sectors_after}
-use Rattle.cvm_outside.proofs.Putting.{scripts-none, scripts-suc}
+use Rattle.cvm_outside.proofs.RowsPut.{scripts-none, scripts-suc}
 use Rattle.run_scripts.specs.Boot.{held_of, start_of}
-use Rattle.boot_run.specs.LoadScript.{load_script, page_script}
+use Rattle.boot_run.specs.LoadScript.{load_script, page_write_script}
 use Rattle.run_scripts.specs.SessionRuns.{pages_loaded}
-use Rattle.run_scripts.proofs.Stores.{stored-append}
+use Rattle.run_scripts.proofs.ScriptsStore.{stored-append}
 
-page_stores : (p : Pages) (q : ℕ) (ss : List (List ℕ)) → sectors_after (page_script p q) ss ≡ with_page p ss q
+page_stores : (p : Pages) (q : ℕ) (ss : List (List ℕ)) → sectors_after (page_write_script p q) ss ≡ with_page p ss q
 page_stores p q ss = by (p.live q)
   where
     by : (b : Bool) → sectors_after (if b then Wrote q (words_of_page p q) ∷ [] else []) ss ≡ (if b then slice_set ss q (words_of_page p q) else ss)
     by true = refl
     by false = refl
 
-load_stores : (p : Pages) (n : ℕ) (ss : List (List ℕ)) → sectors_after (load_script p n) ss ≡ written p n ss
-load_stores p zero ss = ap (λ (l : List Call). sectors_after l ss) (scripts-none (page_script p))
+load_stores : (p : Pages) (n : ℕ) (ss : List (List ℕ)) → sectors_after (load_script p n) ss ≡ pages_written p n ss
+load_stores p zero ss = ap (λ (l : List Call). sectors_after l ss) (scripts-none (page_write_script p))
 load_stores p (suc n) ss =
-    ap (λ (l : List Call). sectors_after l ss) (scripts-suc (page_script p) n) ∙ stored-append (scripts (page_script p) n) (page_script p n) ss
-    ∙ ap (sectors_after (page_script p n)) (load_stores p n ss) ∙ page_stores p n (written p n ss)
+    ap (λ (l : List Call). sectors_after l ss) (scripts-suc (page_write_script p) n) ∙ stored-append (scripts (page_write_script p) n) (page_write_script p n) ss
+    ∙ ap (sectors_after (page_write_script p n)) (load_stores p n ss) ∙ page_stores p n (pages_written p n ss)
 
 module _ (y : System) (some : 1 ≤ y.boot.params.pages) where
   abbrev per : ℕ
@@ -71,7 +71,7 @@ module _ (y : System) (some : 1 ≤ y.boot.params.pages) where
   kept_behind : (old : List (List ℕ)) (q : ℕ) → first ≤ q → sector_of old q ≡ loaded_sector y old q
   kept_behind old q ge = sym (cond-false ((first_pages per users).live q) _ _ (dead q ge))
 
-  loaded_are : (old : List (List ℕ)) → first ≤ length old → written (user_pages y) first old ≡ (loaded y old).device.sectors
+  loaded_are : (old : List (List ℕ)) → first ≤ length old → pages_written (user_pages y) first old ≡ (loaded y old).device.sectors
   loaded_are old le = written_is (user_pages y) first old (loaded_sector y old) le (λ q lt. page_below [] old q lt) (λ q ge. kept_behind old q ge)
 
   -- a sector of the disk with a ROM's words, by whether its number is below these, and below all
@@ -92,7 +92,7 @@ module _ (y : System) (some : 1 ≤ y.boot.params.pages) where
       let above : first ≤ q = omega (arith, ge) in
       kept_behind old q above ∙ sym (ap₂ (λ low all. sector_if old q low all) (le-ltb q first above) (le-ltb q many ge))
 
-  rom_are : (old : List (List ℕ)) → many ≤ length old → written (rom_pages y) many old ≡ (rom_loaded y (own_rom y) old).device.sectors
+  rom_are : (old : List (List ℕ)) → many ≤ length old → pages_written (rom_pages y) many old ≡ (rom_loaded y (own_rom y) old).device.sectors
   rom_are old le = written_is (rom_pages y) many old (rom_sector y old) le
       (λ q lt. ⊎_elim
       (λ (l : q < first). page_below y.boot.words old q l ∙ of_user old q l)

@@ -3,15 +3,15 @@ use Rattle.std.specs.Prelude.{if◌then◌else◌}
 use Rattle.std.proofs.Common.{◌≡◌, ℕ, suc, ◌+◌, ◌-◌, ◌<◌, ◌≤◌, List, [], ◌++◌, ap, ◌∙◌, subst, arith}
 use Rattle.mips_table.specs.Turns.{TurnLaws}
 use Rattle.cvm_outside.specs.Script.{Call, WritesNoSector, sectors_after}
-use Rattle.cvm_outside.proofs.Putting.{quiet_both}
+use Rattle.cvm_outside.proofs.RowsPut.{quiet_both}
 use Rattle.boot_turns.specs.Runs.{Run, Past, state_at, steps_made, has_ended}
 use Rattle.mips_machine.specs.Steps.{script_of_step}
 use Rattle.boot_turns.specs.StepScript.{rows_script, step_script, steps_script}
 use Rattle.boot_run.specs.Closing.{opening_script, closing_script}
 use Rattle.boot_run.specs.RunScript.{rest_script, run_script}
-use Rattle.run_scripts.proofs.MadeOf.{Closed, of_if, of_opening, of_report, of_rows}
+use Rattle.run_scripts.proofs.ScriptsMadeOf.{Closed, of_if, of_opening, of_report, of_rows}
 use Rattle.boot_run.proofs.AbstractRuns.{on_before}
-use Rattle.run_scripts.proofs.Stores.{stored-append, quiet_stores, stored_scripts, step_stores}
+use Rattle.run_scripts.proofs.ScriptsStore.{stored-append, quiet_stores, stored_scripts, step_stores}
 
 -- WHAT WRITES no sector
 pub quiet : Closed WritesNoSector

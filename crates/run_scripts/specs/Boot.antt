@@ -15,22 +15,23 @@ use Rattle.cvm_model.specs.KernelMeaning.{kernel_meaning}
 use Rattle.layer_contract.specs.Follows.{loaded}
 use Rattle.layer_contract.specs.Starts.{user_sectors}
 use Rattle.boot_turns.specs.declared.answers.View.TheVariants as view
-use Rattle.boot_turns.specs.Headline.{Ending, Done as IsDone, KernelFaulted, OutOfSteps, RanFrom}
 use Rattle.boot_turns.specs.GoesOn.{GoesOnWithin}
 use Rattle.boot_turns.specs.Rom.{own_rom, rom_loaded, rom_sectors, rom_steps}
+use Rattle.boot_run.specs.declared.whole.RunEnd.{RunEnd}
 use Rattle.boot_run.specs.RunEnds.{SeesUser}
 use Rattle.kernel_linker.specs.Accept.{ImageSystem}
 use Rattle.run_scripts.specs.declared.exit_status.Status.{Status}
-use Rattle.run_scripts.specs.declared.exit_status.Status.TheVariants.{Done, KernelFault, StepLimit}
 use Rattle.run_scripts.specs.declared.session.Session.{Session}
 use Rattle.run_scripts.specs.declared.session.StartPoint.{StartPoint}
 use Rattle.run_scripts.specs.declared.session.StartPoint.TheVariants.{Loaded, Rom}
 use Rattle.sample_maker.specs.Parts.{SampleParts as Sampled}
 use Rattle.sample_maker.specs.Sample.{sample_of}
-use Rattle.run_scripts.specs.Command.{Boot, Trace, Sample, IsBoot, IsTrace, IsSample, boot_session, trace_session, sample_session}
+use Rattle.run_scripts.specs.Command.{BootCommand, Trace, Sample, IsBoot, IsTrace, IsSample, boot_session, trace_session, sample_session}
 use Rattle.cvm_outside.specs.Outside.{Outside}
+use Rattle.run_scripts.specs.RunStatus.{status_of_end}
+use Rattle.run_scripts.specs.RanFrom.{RanFrom}
 use Rattle.run_scripts.specs.Plan.{Accepts, IsLinkedTo}
-use Rattle.run_scripts.specs.Served.{IsServed}
+use Rattle.run_scripts.specs.Served.{NoCallFails}
 
 -- the abstract run of an accepted system under a schedule: its kernel is what its own source means
 abbrev pub booted : ImageSystem → Rows → System
@@ -41,8 +42,8 @@ booted s rows = record {
 }
 
 -- what surrounds its machine: the schedule's lines and busy times, and the number of sectors
-abbrev pub around : Rows → Outside → Environment
-around rows old = outside_of rows old.disk.size
+abbrev pub environment_of : Rows → Outside → Environment
+environment_of rows old = outside_of rows old.disk.size
 
 -- THE START of a run, over a disk with these sectors: the loaded machine; or the machine with the boot ROM that loads it
 abbrev pub start_of : StartPoint → System → (sectors : List (List ℕ)) → State
@@ -60,47 +61,41 @@ steps_before Loaded y = 0
 steps_before Rom y = rom_steps y
 
 -- where the run of a session starts, over a disk with these sectors, and how many sectors it uses
-abbrev pub first_state : Session → ImageSystem → Rows → (sectors : List (List ℕ)) → State
-first_state session s rows sectors = start_of session.start (booted s rows) sectors
+abbrev pub start_state : Session → ImageSystem → Rows → (sectors : List (List ℕ)) → State
+start_state session s rows sectors = start_of session.start (booted s rows) sectors
 
 abbrev pub sectors_needed : Session → ImageSystem → Rows → ℕ
 sectors_needed session s rows = held_of session.start (booted s rows)
 
 -- so many turns of the abstract run lead to this, with the lines that the machine meets from there
 abbrev pub IsBooted : Session → Outside → ImageSystem → Rows → (sectors : List (List ℕ)) → (turns : ℕ) → Cvm → Type 0
-IsBooted session old s rows sectors turns c = IsCvm (booted s rows) (lines_of_turn (around rows old) (first_state session s rows sectors)) turns c
+IsBooted session old s rows sectors turns c = IsCvm (booted s rows) (lines_of_turn (environment_of rows old) (start_state session s rows sectors)) turns c
 
 -- the machine comes to the end of every turn of the abstract run, within its bound and the steps before the layer's
 abbrev pub SessionGoesOn : Session → Outside → ImageSystem → Rows → (sectors : List (List ℕ)) → Type 0
 SessionGoesOn session old s rows sectors =
-    GoesOnWithin (around rows old) (booted s rows) (first_state session s rows sectors) (steps_before session.start (booted s rows))
+    GoesOnWithin (environment_of rows old) (booted s rows) (start_state session s rows sectors) (steps_before session.start (booted s rows))
 
 -- with no failed call: sectors, ending and text are those of the machine and of the abstract run
-abbrev pub SessionRan : Session → ImageSystem → Rows → Outside → (before after : List (List ℕ)) → Ending → (text : List ℕ) → Type 0
+abbrev pub SessionRan : Session → ImageSystem → Rows → Outside → (before after : List (List ℕ)) → RunEnd → (text : List ℕ) → Type 0
 SessionRan session s rows old before after e text =
-    RanFrom (around rows old) (booted s rows) (first_state session s rows before) (sectors_needed session s rows) before after
+    RanFrom (environment_of rows old) (booted s rows) (start_state session s rows before) (sectors_needed session s rows) before after
     session.view session.turns session.steps e text
-
--- an ending as a status
-abbrev pub ended_as : Ending → Status
-ended_as IsDone = Done
-ended_as KernelFaulted = KernelFault
-ended_as OutOfSteps = StepLimit
 
 -- THE HEADLINE, of a run with no failed call: the sectors are those of the machine that runs the image's words, and status and text are those of
 -- the abstract run of the image's own kernel, with each line at the turn where the machine met it
 pub record Headline (session : Session) (s : ImageSystem) (rows : Rows) (before : List (List ℕ)) (old new : Outside) (status : Status) : Type 0 where
   pub after : List (List ℕ)
   pub text : List ℕ
-  pub ending : Ending
+  pub ending : RunEnd
   pub sectors : new.disk.sectors ≡ Some after
   pub printed : new.sink.text ≡ append_known old.sink.text text
-  pub status_is : status ≡ ended_as ending
+  pub status_is : status ≡ status_of_end ending
   pub ran : SessionRan session s rows old before after ending text
   pub goes_on : SessionGoesOn session old s rows before
 
 -- these files are an accepted image and a valid schedule
-pub record AreFilesOf (file : List ℕ → Option (List ℕ)) (b : Boot) (s : ImageSystem) (rows : Rows) : Type 0 where
+pub record AreFilesOf (file : List ℕ → Option (List ℕ)) (b : BootCommand) (s : ImageSystem) (rows : Rows) : Type 0 where
   pub image : List ℕ
   pub image_told : file b.image ≡ Some image
   pub image_short : length image < TOO_LONG
@@ -119,7 +114,7 @@ pub record ArePartsOf (parts : Sampled) (s : ImageSystem) (rows : Rows) : Type 0
 
 -- THESE WORDS AND FILES ASK for this session of this system under this schedule: by a boot, by a trace, or by a sample
 pub data AskFor (words : List (List ℕ)) (file : List ℕ → Option (List ℕ)) (session : Session) (s : ImageSystem) (rows : Rows) : Type 0 where
-  by_boot : (b : Boot) → IsBoot words b → session ≡ boot_session b → AreFilesOf file b s rows → AskFor words file session s rows
+  by_boot : (b : BootCommand) → IsBoot words b → session ≡ boot_session b → AreFilesOf file b s rows → AskFor words file session s rows
   by_trace : (t : Trace) → IsTrace words t → session ≡ trace_session t → AreFilesOf file t.boot s rows → AskFor words file session s rows
   by_sample : (x : Sample) → IsSample words x → session ≡ sample_session → ArePartsOf (sample_of x.number) s rows → AskFor words file session s rows
 
@@ -137,4 +132,4 @@ pub record IsHonest (words : List (List ℕ)) (session : Session) (s : ImageSyst
   pub user : SeesUser session.view (length s.users)
   pub sectors : old.disk.sectors ≡ Some before
   pub enough : sectors_needed session s rows ≤ old.disk.size
-  pub served : IsServed (files_needed asked) old new
+  pub served : NoCallFails (files_needed asked) old new

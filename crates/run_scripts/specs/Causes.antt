@@ -1,5 +1,5 @@
 -- WHY A STATUS IS WHAT IT IS, as laws.
-use Rattle.std.specs.Prelude.{◌≡◌, ◌≢◌, ◌⊎◌, ℕ, ◌<◌, ◌≤◌, false, List, [], length, Option, Some, None}
+use Rattle.std.specs.Prelude.{◌≡◌, ◌≢◌, ◌⊎◌, ℕ, ◌<◌, ◌≤◌, false, List, [], length, codes, Option, Some, None}
 use Rattle.cvm_outside.specs.Told.{TOO_LONG}
 use Rattle.schedule_file.specs.Rows.{Rows}
 use Rattle.boot_turns.specs.declared.answers.View.TheVariants.{Trace}
@@ -18,12 +18,12 @@ use Rattle.run_scripts.specs.Boot.{sectors_needed}
 use Rattle.boot_run.specs.RunEnds.{SeesUser}
 use Rattle.run_scripts.specs.RunStatus.{IsRunStatus}
 use Rattle.run_scripts.specs.Ends.{Ends}
-use Rattle.run_scripts.specs.Served.{files_of, NoneFailed}
+use Rattle.run_scripts.specs.Served.{files_of, ServesWords, NoneFailed}
 use Rattle.run_scripts.specs.Headline.{IsOf}
 
 -- the count of this object rose, or of none where it is none; and the counts of all others are as before
-abbrev pub Counts : Option Who → (old new : Outside) → Type 0
-Counts blamed old new = (whom : Who) → Blamed old new blamed whom
+abbrev pub FaultRose : Option Who → (old new : Outside) → Type 0
+FaultRose blamed old new = (whom : Who) → Blamed old new blamed whom
 
 -- the run that a plan is needs more sectors than there are
 abbrev pub NeedsMore : Plan → (size : ℕ) → Type 0
@@ -65,24 +65,29 @@ pub record IsTooLong (words : List (List ℕ)) (old new : Outside) : Type 0 wher
 -- BY THE STATUS, over any outside: an object failed and counted it, or the disk is too small, or a file is too long; else no count changed, and 3 and 4 come
 -- of a run, 0 of one or of a plan that loads nothing
 abbrev pub CausedBy : Status → List (List ℕ) → (old new : Outside) → Type 0
-CausedBy Disk words old new = Counts (Some TheDisk) old new ⊎ (Counts None old new × IsTooSmall words old)
-CausedBy Shelf words old new = Counts (Some TheShelf) old new ⊎ (Counts None old new × IsTooLong words old new)
-CausedBy Sink words old new = Counts (Some TheSink) old new
-CausedBy Done words old new = Counts None old new × HasPlan words old (λ p. IsWork p ⊎ IsRun p old.disk.size)
-CausedBy KernelFault words old new = Counts None old new × HasPlan words old (λ p. IsRun p old.disk.size)
-CausedBy StepLimit words old new = Counts None old new × HasPlan words old (λ p. IsRun p old.disk.size)
-CausedBy other words old new = Counts None old new
+CausedBy Disk words old new = FaultRose (Some TheDisk) old new ⊎ (FaultRose None old new × IsTooSmall words old)
+CausedBy Shelf words old new = FaultRose (Some TheShelf) old new ⊎ (FaultRose None old new × IsTooLong words old new)
+CausedBy Sink words old new = FaultRose (Some TheSink) old new
+CausedBy Done words old new = FaultRose None old new × HasPlan words old (λ p. IsWork p ⊎ IsRun p old.disk.size)
+CausedBy KernelFault words old new = FaultRose None old new × HasPlan words old (λ p. IsRun p old.disk.size)
+CausedBy StepLimit words old new = FaultRose None old new × HasPlan words old (λ p. IsRun p old.disk.size)
+CausedBy other words old new = FaultRose None old new
 
 abbrev pub StatusesAreCaused : Type 0
 StatusesAreCaused = (words : List (List ℕ)) (old new : Outside) (status : Status) → Ends words old new status → CausedBy status words old new
 
--- STATUS 1 exactly where the words are no command, unless their row can't be printed
-pub record WordsExactly (words : List (List ℕ)) (status : Status) : Type 0 where
+-- A REFUSAL yields to 7: its row was printed, and the status is its own; or the sink failed in the row, took a part of it, and the status is 7
+abbrev pub RefusedWith : (due : Status) → (row : List ℕ) → (old new : Outside) → Status → Type 0
+RefusedWith due row old new status = ((status ≡ due) × PrintedBy None old.sink.text new.sink.text row)
+    ⊎ ((status ≡ Sink) × PrintedBy (Some TheSink) old.sink.text new.sink.text row)
+
+-- STATUS 1 exactly where the words are no command, with its row
+pub record WordsExactly (words : List (List ℕ)) (old new : Outside) (status : Status) : Type 0 where
   pub only : status ≡ Words → IsNoCommand words
-  pub so : IsNoCommand words → (status ≡ Words) ⊎ (status ≡ Sink)
+  pub so : IsNoCommand words → RefusedWith Words (codes "bad words\n") old new status
 
 abbrev pub WordsAreRefused : Type 0
-WordsAreRefused = (words : List (List ℕ)) (old new : Outside) (status : Status) → Ends words old new status → WordsExactly words status
+WordsAreRefused = (words : List (List ℕ)) (old new : Outside) (status : Status) → Ends words old new status → WordsExactly words old new status
 
 -- the user of a trace is none of the image's, and that is what is refused
 pub record HasNoUser (words : List (List ℕ)) (old : Outside) (r : Refusal) : Type 0 where
@@ -95,10 +100,11 @@ pub record HasNoUser (words : List (List ℕ)) (old : Outside) (r : Refusal) : T
   pub none : SeesUser session.view (length system.users) → ⊥
   pub is : r ≡ no_such_user user (length system.users)
 
--- A REFUSAL of a file is answered with its own status and row, where no call fails and memory is there; and status 2 is one, or a user that there is none of
+-- A FILE IS REFUSED with the status and the row of its fault, where the files are got and memory is there; and status 2 is such a refusal, or a user that
+-- there is none of
 pub record RefusedExactly (words : List (List ℕ)) (old new : Outside) (status : Status) : Type 0 where
-  pub so : (r : Refusal) → PlanComesTo words old.shelf.file (refuses r) → NoneFailed words old new → status ≢ Memory →
-      (status ≡ refusal_status r) × PrintedBy None old.sink.text new.sink.text (refusal_text r)
+  pub so : (r : Refusal) → PlanComesTo words old.shelf.file (refuses r) → ServesWords words old new → status ≢ Memory →
+      RefusedWith (refusal_status r) (refusal_text r) old new status
   pub only : status ≡ Refused → (r : Refusal) × (PlanComesTo words old.shelf.file (refuses r) ⊎ HasNoUser words old r)
       × PrintedBy None old.sink.text new.sink.text (refusal_text r)
 
@@ -106,26 +112,22 @@ abbrev pub FilesAreRefused : Type 0
 FilesAreRefused = (words : List (List ℕ)) (old new : Outside) (status : Status) → AllTold words old.shelf.file → Ends words old new status →
     RefusedExactly words old new status
 
--- A USER THAT THERE IS NONE OF is refused, and then a disk that is too small, where no call fails and memory is there
+-- A USER THAT THERE IS NONE OF is refused, and then a disk that is too small, where the files are got and memory is there
 abbrev pub MissingUsersAreRefused : Type 0
 MissingUsersAreRefused = (words : List (List ℕ)) (old new : Outside) (status : Status) (r : Refusal) → AllTold words old.shelf.file →
-    HasNoUser words old r → NoneFailed words old new → Ends words old new status → status ≢ Memory →
-    (status ≡ Refused) × PrintedBy None old.sink.text new.sink.text (refusal_text r)
+    HasNoUser words old r → ServesWords words old new → Ends words old new status → status ≢ Memory →
+    RefusedWith Refused (refusal_text r) old new status
 
 abbrev pub SmallDisksAreRefused : Type 0
 SmallDisksAreRefused = (words : List (List ℕ)) (plan : Plan) (session : Session) (s : ImageSystem) (rows : Rows) (old new : Outside) (status : Status) →
     AllTold words old.shelf.file → PlanComesTo words old.shelf.file plan → IsOf session s rows plan → SeesUser session.view (length s.users) →
-    old.disk.size < sectors_needed session s rows → NoneFailed words old new → Ends words old new status → status ≢ Memory →
-    (status ≡ Disk) × PrintedBy None old.sink.text new.sink.text (refusal_text (small_disk (sectors_needed session s rows) old.disk.size))
+    old.disk.size < sectors_needed session s rows → ServesWords words old new → Ends words old new status → status ≢ Memory →
+    RefusedWith Disk (refusal_text (small_disk (sectors_needed session s rows) old.disk.size)) old new status
 
--- A FILE IS REFUSED AS TOO LONG, with its row, where 67,108,865 bytes of it were taken; or its row can't be printed
-abbrev pub RefusedAsLong : (old new : Outside) → Status → Type 0
-RefusedAsLong old new status = ((status ≡ Shelf) × PrintedBy None old.sink.text new.sink.text (refusal_text too_long))
-    ⊎ ((status ≡ Sink) × PrintedBy (Some TheSink) old.sink.text new.sink.text (refusal_text too_long))
-
+-- A FILE IS REFUSED AS TOO LONG, with its row, where 67,108,865 bytes of it were taken
 abbrev pub LongFilesAreRefused : Type 0
 LongFilesAreRefused = (words : List (List ℕ)) (c : Command) (old new : Outside) (status : Status) → IsCommand words c → files_of c ≢ [] →
-    Ends words old new status → new.shelf.taken ≡ TOO_LONG → RefusedAsLong old new status
+    Ends words old new status → new.shelf.taken ≡ TOO_LONG → RefusedWith Shelf (refusal_text too_long) old new status
 
 -- STATUS 4: a run that didn't come to its end made all its steps
 abbrev pub StepsAreSpent : Type 0

@@ -29,17 +29,17 @@ pub data TellsUnit (stack : ℕ) (u : Unit) : List ℕ → Type 0 where
   has_loop : (functions : List ℕ) → IsLeastLoop u functions → TellsUnit stack u (loop_text u functions)
 
 -- what is told, or the refusal
-abbrev pub Told : Type 0
-Told = Result (List ℕ) Refusal
+abbrev pub CheckTold : Type 0
+CheckTold = Result (List ℕ) Refusal
 
 -- OF WHAT WAS OPENED the unit is told, or the fault is refused
-abbrev pub TellsOpened : (stack : ℕ) → Result Unit LinkFault → Told → Type 0
+abbrev pub TellsOpened : (stack : ℕ) → Result Unit LinkFault → CheckTold → Type 0
 TellsOpened stack (Ok u) (Ok text) = TellsUnit stack u text
 TellsOpened stack (Err f) (Err r) = r ≡ unlinked f
 TellsOpened stack opened told = ⊥
 
 -- OF THE BYTES of an object: it is read, then opened
-pub data TellsObject (stack : ℕ) (bytes : List ℕ) : Told → Type 0 where
+pub data TellsObject (stack : ℕ) (bytes : List ℕ) : CheckTold → Type 0 where
   no_object : (f : ObjectFault) → IsObject bytes (Err f) → TellsObject stack bytes (Err (bad_object f))
-  has_object : (o : Object) (front : Result Unit SourceFault) (told : Told) → IsObject bytes (Ok o) → IsFrontAnswer o.source front
+  has_object : (o : Object) (front : Result Unit SourceFault) (told : CheckTold) → IsObject bytes (Ok o) → IsFrontAnswer o.source front
       → TellsOpened stack (open_answer o front) told → TellsObject stack bytes told

@@ -11,7 +11,7 @@ use Rattle.run_scripts.specs.declared.session.StartPoint.TheVariants.{Loaded, Ro
 use Rattle.run_scripts.specs.Check.{Check, IsCheck}
 
 -- boot an image under a schedule from this start, for so many turns and at most so many steps
-pub record Boot : Type 0 where
+pub record BootCommand : Type 0 where
   pub start : StartPoint
   pub image : List ℕ
   pub schedule : List ℕ
@@ -20,7 +20,7 @@ pub record Boot : Type 0 where
 
 -- boot it so, and print of it what concerns one user
 pub record Trace : Type 0 where
-  pub boot : Boot
+  pub boot : BootCommand
   pub user : ℕ
 
 -- assemble a text, and put the image that it gives
@@ -47,7 +47,7 @@ pub record Migrate : Type 0 where
 
 -- boot it so, and save its machine to a file; or go on with one that such a file holds
 pub record Save : Type 0 where
-  pub boot : Boot
+  pub boot : BootCommand
   pub file : List ℕ
 
 -- make, link and boot the sample of a number
@@ -56,7 +56,7 @@ pub record Sample : Type 0 where
 
 -- a command, of one of the kinds
 pub data Command : Type 0 where
-  boot : Boot → Command
+  boot : BootCommand → Command
   trace : Trace → Command
   save : Save → Command
   resume : Save → Command
@@ -69,8 +69,8 @@ pub data Command : Type 0 where
   check : Check → Command
 
 -- the words as texts
-abbrev pub texts : List (String Global) → List (List ℕ)
-texts words = map string_bytes words
+abbrev pub word_texts : List (String Global) → List (List ℕ)
+word_texts words = map string_bytes words
 
 -- the word that names a start
 abbrev pub start_word : StartPoint → List ℕ
@@ -78,7 +78,7 @@ start_word Loaded = codes "boot"
 start_word Rom = codes "rom"
 
 -- boot IMAGE SCHEDULE TURNS STEPS, or from a boot ROM by rom IMAGE SCHEDULE TURNS STEPS
-pub record IsBoot (words : List (List ℕ)) (b : Boot) : Type 0 where
+pub record IsBoot (words : List (List ℕ)) (b : BootCommand) : Type 0 where
   pub spelled : words ≡ start_word b.start ∷ b.image ∷ b.schedule ∷ decimal b.turns ∷ decimal b.steps ∷ []
   pub some_turns : 1 ≤ b.turns
   pub turns_fit : b.turns < 2 ^ 32
@@ -150,7 +150,7 @@ abbrev pub IsNoCommand : List (List ℕ) → Type 0
 IsNoCommand words = (c : Command) → IsCommand words c → ⊥
 
 -- WHAT IS RUN by a boot, by a trace, by a save or a resume, and by a sample
-abbrev pub boot_session : Boot → Session
+abbrev pub boot_session : BootCommand → Session
 boot_session b = record { start = b.start; view = view.Boot; turns = b.turns; steps = b.steps }
 
 abbrev pub trace_session : Trace → Session
@@ -163,6 +163,6 @@ abbrev pub sample_session : Session
 sample_session = record { start = Loaded; view = view.Boot; turns = 100000; steps = 4000000000 }
 
 -- the command that boots so, with this view
-abbrev pub command_of : Boot → View → Command
+abbrev pub command_of : BootCommand → View → Command
 command_of b view.Boot = boot b
 command_of b (view.Trace u) = trace (record { boot = b; user = u })

@@ -12,7 +12,7 @@ use Rattle.run_scripts.specs.declared.session.Session.{Session}
 use Rattle.run_scripts.specs.Command.{Command, IsCommand}
 use Rattle.run_scripts.specs.Refusal.{small_disk, no_such_user, too_long, refusal_text, refusal_status}
 use Rattle.run_scripts.specs.Plan.{Plan, bad_words, refuses, puts, boots, saves, resumes, prints as tells, PlanComesTo, AllTold, IsPlan}
-use Rattle.cvm_outside.specs.Script.{Call, Printed, Stored, Who, TheSink, TheDisk, TheShelf, Performs, ShelfCalled}
+use Rattle.cvm_outside.specs.Script.{Call, Stored, Who, TheSink, TheDisk, TheShelf, Performs, ShelfCalled}
 use Rattle.cvm_outside.specs.declared.shelf.Shelf as shelf_of
 use Rattle.cvm_outside.specs.declared.sink.Sink as sink_of
 use Rattle.cvm_outside.specs.declared.sectors.Sectors as sectors_of
@@ -23,17 +23,16 @@ use Rattle.run_scripts.specs.Boot.{booted, sectors_needed}
 use Rattle.boot_run.specs.LoadScript.{load_script}
 use Rattle.boot_run.specs.RunEnds.{SeesUser}
 use Rattle.boot_run.specs.SavedRuns.{IsDisk}
-use Rattle.run_scripts.specs.Saves.{saved_row}
 use Rattle.boot_run.specs.Closing.{says}
 use Rattle.run_scripts.specs.SessionRuns.{run_of, pages_loaded}
 use Rattle.boot_run.specs.AnyScripts.{power_end, IsReport, untold_rest}
-use Rattle.boot_run.specs.RunScript.{WasSaved, run_script, rest_script}
-use Rattle.run_scripts.specs.RunStatus.{IsRunStatus, run_status, save_script, power_status}
+use Rattle.boot_run.specs.RunScript.{WasSaved, run_script, rest_script, save_script, put_script}
+use Rattle.run_scripts.specs.RunStatus.{IsRunStatus, run_status, power_status}
 use Rattle.run_scripts.specs.Served.{files_of, gets}
 
 -- THE LOAD of a session
-abbrev pub load_of : Session → ImageSystem → Rows → List Call
-load_of session s rows = load_script (pages_loaded session.start (booted s rows)) (sectors_needed session s rows)
+abbrev pub session_load : Session → ImageSystem → Rows → List Call
+session_load session s rows = load_script (pages_loaded session.start (booted s rows)) (sectors_needed session s rows)
 
 -- WHAT A RUN IS TO DO, to its end or to be saved: its script, and its status where no call fails, by what the abstract machine says of it
 pub record RunAsks (r : Run) (scripted : Run → Past → List Call) (script : List Call) (status : Status) : Type 0 where
@@ -70,7 +69,7 @@ SomeRunAsks load script status = (more : List Call) × AreOfRun more × (script 
 pub data SomeSaveAsks (name : List ℕ) (load : List Call) : List Call → Status → Type 0 where
   as_boot : (script : List Call) (status : Status) → SomeRunAsks load script status → SomeSaveAsks name load script status
   is_saved : (more : List Call) (bytes : List ℕ) → AreOfRun more →
-      SomeSaveAsks name load (load ++ more ++ (Stored name bytes ∷ Printed (Some saved_row) ∷ [])) Done
+      SomeSaveAsks name load (load ++ more ++ put_script name bytes) Done
 
 -- WHAT A SESSION IS TO DO: refuse a user that there is none of, or a disk that is too small; or the run, over sectors that are told or not
 pub data SessionAsks (session : Session) (s : ImageSystem) (rows : Rows) (old : Outside) (Told : List (List ℕ) → List Call → Status → Type 0)
@@ -92,11 +91,11 @@ PlanAsks (refuses r) old script status = (script ≡ says (refusal_text r)) × (
 PlanAsks (puts name bytes) old script status = (script ≡ Stored name bytes ∷ []) × (status ≡ Done)
 PlanAsks (tells text) old script status = (script ≡ says text) × (status ≡ Done)
 PlanAsks (boots session s rows) old script status =
-    SessionAsks session s rows old (λ sectors. RunAsks (run_of session s rows old.disk.size sectors) (λ r. run_script r (load_of session s rows)))
-    (SomeRunAsks (load_of session s rows)) script status
+    SessionAsks session s rows old (λ sectors. RunAsks (run_of session s rows old.disk.size sectors) (λ r. run_script r (session_load session s rows)))
+    (SomeRunAsks (session_load session s rows)) script status
 PlanAsks (saves session s rows name) old script status =
-    SessionAsks session s rows old (λ sectors. RunAsks (run_of session s rows old.disk.size sectors) (λ r. save_script name r (load_of session s rows)))
-    (SomeSaveAsks name (load_of session s rows)) script status
+    SessionAsks session s rows old (λ sectors. RunAsks (run_of session s rows old.disk.size sectors) (λ r. save_script name r (session_load session s rows)))
+    (SomeSaveAsks name (session_load session s rows)) script status
 PlanAsks (resumes session s rows words) old script status =
     SessionAsks session s rows old (ResumeAsks session s rows words old.disk.size) (SomeRunAsks []) script status
 
@@ -131,15 +130,15 @@ AreBytes file [] = ⊤
 AreBytes file (name ∷ rest) = IfSome (file name) (All IsByte) × AreBytes file rest
 
 -- WHAT A RUN FINDS where it is told: the files that were got are of bytes, and there are as many sectors as the disk has, of 1,024 words each
-pub record IsFound (words : List (List ℕ)) (old : Outside) : Type 0 where
+pub record RunIsFound (words : List (List ℕ)) (old : Outside) : Type 0 where
   pub files : (c : Command) → IsCommand words c → AreBytes old.shelf.file (files_of c)
   pub disk : IfSome old.disk.sectors (IsDisk old.disk.size)
 
-abbrev pub Finds : Plan → List (List ℕ) → Outside → Type 0
-Finds (boots session s rows) words old = IsFound words old
-Finds (saves session s rows name) words old = IsFound words old
-Finds (resumes session s rows machine) words old = IsFound words old
-Finds other words old = ⊤
+abbrev pub PlanFinds : Plan → List (List ℕ) → Outside → Type 0
+PlanFinds (boots session s rows) words old = RunIsFound words old
+PlanFinds (saves session s rows name) words old = RunIsFound words old
+PlanFinds (resumes session s rows machine) words old = RunIsFound words old
+PlanFinds other words old = ⊤
 
 -- by whose call an answer goes: the status that was due, or that of the object that failed
 abbrev pub answered : Status → Option Who → Status
@@ -187,14 +186,14 @@ pub data Wants (names : List (List ℕ)) (old new : Outside) : Type 0 where
       Performs (gets made) old mid None → GetWants mid new → Wants names old new
 
 -- WHAT WAS DONE: the gets and the plan's script were performed, up to a call that failed
-pub record Does (words : List (List ℕ)) (old new : Outside) (status : Status) : Type 0 where
+pub record WasDone (words : List (List ℕ)) (old new : Outside) (status : Status) : Type 0 where
   pub plan : Plan
   pub is_plan : IsPlan (AllTold words old.shelf.file) (PlanComesTo words old.shelf.file) plan
   pub got : List Call
   pub gets : CommandGets words old.shelf.file new.shelf.taken plan got
   pub mid : Outside
   pub files : Performs got old mid None
-  pub finds : Finds plan words old
+  pub finds : PlanFinds plan words old
   pub script : List Call
   pub due : Status
   pub asks : PlanAsks plan mid script due
@@ -205,10 +204,10 @@ pub record Does (words : List (List ℕ)) (old new : Outside) (status : Status) 
 
 -- HOW A COMMAND ENDS: so; or a file could not be got; or memory was wanted before a file was put, a text printed, or the disk called
 pub data Ends (words : List (List ℕ)) (old new : Outside) : Status → Type 0 where
-  done : (status : Status) → Does words old new status → Ends words old new status
+  done : (status : Status) → WasDone words old new status → Ends words old new status
   no_file : (c : Command) → IsCommand words c → IsNotGot (files_of c) old new → Ends words old new Shelf
   no_memory : (c : Command) → IsCommand words c → Wants (files_of c) old new → Ends words old new Memory
 
 -- the three objects of a command as one outside
-abbrev pub seen : {S O D : Type 0} → shelf_of.Ghosts S → sink_of.Ghosts O → sectors_of.Ghosts D → S → O → D → Outside
-seen shelf sink disk s o d = record { shelf = files shelf s; sink = output sink o; disk = drive disk d }
+abbrev pub as_outside : {S O D : Type 0} → shelf_of.Ghosts S → sink_of.Ghosts O → sectors_of.Ghosts D → S → O → D → Outside
+as_outside shelf sink disk s o d = record { shelf = files shelf s; sink = output sink o; disk = drive disk d }

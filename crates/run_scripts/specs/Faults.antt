@@ -22,13 +22,12 @@ use Rattle.cvm_outside.specs.Script.{Call, Who, TheSink, TheDisk, Performs, disk
 use Rattle.cvm_outside.specs.Outside.{Outside, counts}
 use Rattle.boot_turns.specs.Runs.{Run, Past, IsPast, state_at, turns_at, steps_made, has_ended, cvm_at}
 use Rattle.boot_turns.specs.StepScript.{entry_script, step_script, steps_script}
-use Rattle.boot_turns.specs.TurnEnds.{first_of}
+use Rattle.boot_turns.specs.TurnEnds.{first_user_machine}
 use Rattle.run_scripts.specs.Boot.{sectors_needed}
-use Rattle.run_scripts.specs.Saves.{saved_row}
 use Rattle.boot_run.specs.Closing.{opening_script, closing_script}
+use Rattle.boot_run.specs.RunScript.{saved_row, saved_bytes}
 use Rattle.run_scripts.specs.SessionRuns.{run_of}
-use Rattle.run_scripts.specs.RunStatus.{saved_bytes}
-use Rattle.run_scripts.specs.Ends.{Ends, IsNotGot, SavedRun, load_of}
+use Rattle.run_scripts.specs.Ends.{Ends, IsNotGot, SavedRun, session_load}
 use Rattle.run_scripts.specs.Headline.{text_at, whole_text, Asked}
 
 -- what was printed is this text; or the first of a whole one, with at least this part of it
@@ -54,7 +53,7 @@ pub record KeepsBehind (held : ℕ) (before : List (List ℕ)) (new : Outside) :
 abbrev pub closed_by : View → Run → Past → List ℕ
 closed_by Boot r p = rows_text (cvm_at r p (steps_made r)).rows ++ end_text (cvm_at r p (steps_made r)).status
 closed_by (Trace u) r p =
-    start_row u (first_of r.system u) ++ journal_rows (p.shown (steps_made r)) ++ end_text (cvm_at r p (steps_made r)).status
+    start_row u (first_user_machine r.system u) ++ journal_rows (p.shown (steps_made r)) ++ end_text (cvm_at r p (steps_made r)).status
 
 -- no call of the disk failed up to here, and there are as many as this script makes
 pub record CalledBy (script : List Call) (old at : Outside) : Type 0 where
@@ -78,7 +77,7 @@ pub data AfterDisk (Reports : Type 0) (r : Run) (load : List Call) (p : Past) (o
       Performs (script_of_step r.around (state_at r t)) mid new (Some TheDisk) → HasPrinted old new (text_at r p t) → AfterDisk Reports r load p old new
   in_rows : (u t k : ℕ) (mid : Outside) → r.view ≡ Trace u → t < steps_made r → length (p.shown t) + k < length (p.shown (suc t)) → Stand r (suc t) mid →
       CalledBy (up_to_row r load p u t k) old mid → Performs (entry_script r p u t (length (p.shown t) + k)) mid new (Some TheDisk) →
-      HasPrinted old new (start_row u (first_of r.system u) ++ open_journal_rows (take (length (p.shown t) + k) (p.shown (suc t)))) →
+      HasPrinted old new (start_row u (first_user_machine r.system u) ++ open_journal_rows (take (length (p.shown t) + k) (p.shown (suc t)))) →
       AfterDisk Reports r load p old new
   in_report : (mid : Outside) → Reports → Stand r (steps_made r) mid → CalledBy (up_to_step r load p (steps_made r)) old mid →
       HasPrinted old mid (text_at r p (steps_made r)) → Performs (closing_script r p) mid new (Some TheDisk) →
@@ -116,7 +115,7 @@ FaultsLeave = (words : List (List ℕ)) (session : Session) (s : ImageSystem) (r
     Asked words (boots session s rows) session s rows before old → (status ≡ StepLimit) ⊎ ((status ≡ Disk) ⊎ (status ≡ Sink)) → Ends words old new status →
     let r : Run = run_of session s rows old.disk.size before in
     After r (sectors_needed session s rows) before new
-    (λ p. AfterBy (has_ended r ≡ true) status r (load_of session s rows) p old new × PrintedWithin old new [] (whole_text r p))
+    (λ p. AfterBy (has_ended r ≡ true) status r (session_load session s rows) p old new × PrintedWithin old new [] (whole_text r p))
 
 -- A run that is left to be saved: it came to its end, and the abstract machine goes on there. Of any other that came to its end the report is printed.
 abbrev pub IsLeft : Run → Past → Type 0
@@ -142,7 +141,7 @@ SaveFaultsLeave = (words : List (List ℕ)) (c : Save) (s : ImageSystem) (rows :
     (status ≡ StepLimit) ⊎ ((status ≡ Disk) ⊎ ((status ≡ Shelf) ⊎ (status ≡ Sink))) → Ends words old new status →
     let r : Run = run_of (save_session c) s rows old.disk.size before in
     ((status ≡ Shelf) × IsNotGot (c.boot.image ∷ c.boot.schedule ∷ []) old new)
-    ⊎ After r (sectors_needed (save_session c) s rows) before new (λ p. UnsavedBy status c r (load_of (save_session c) s rows) p old new)
+    ⊎ After r (sectors_needed (save_session c) s rows) before new (λ p. UnsavedBy status c r (session_load (save_session c) s rows) p old new)
 
 -- this text stands, of which the first part did before: what was printed here is what stands behind it; or the first of that
 pub record PrintedBehind (old new : Outside) (shown text : List ℕ) : Type 0 where

@@ -13,7 +13,7 @@ use Rattle.run_scripts.specs.Plan.{Plan, boots, saves, resumes, PlanComesTo, All
 use Rattle.cvm_outside.specs.Outside.{Outside}
 use Rattle.boot_turns.specs.Runs.{Run, Past, steps_made, has_ended, cvm_at}
 use Rattle.run_scripts.specs.Boot.{sectors_needed}
-use Rattle.boot_turns.specs.TurnEnds.{first_of, TurnIsOver}
+use Rattle.boot_turns.specs.TurnEnds.{first_user_machine, TurnIsOver}
 use Rattle.boot_run.specs.RunEnds.{SeesUser}
 use Rattle.boot_run.specs.SavedRuns.{IsDisk}
 use Rattle.run_scripts.specs.Ends.{Ends, AreBytes}
@@ -22,7 +22,7 @@ use Rattle.run_scripts.specs.Served.{files_of}
 -- THE TEXT after t steps: the rows of the complete turns; of a trace its first row and those of what is shown, but for a last row of steps
 abbrev pub text_by : View → Run → Past → ℕ → List ℕ
 text_by Boot r p t = rows_text (cvm_at r p t).rows
-text_by (Trace u) r p t = start_row u (first_of r.system u) ++ open_journal_rows (p.shown t)
+text_by (Trace u) r p t = start_row u (first_user_machine r.system u) ++ open_journal_rows (p.shown t)
 
 abbrev pub text_at : Run → Past → ℕ → List ℕ
 text_at r p t = text_by r.view r p t
@@ -30,7 +30,7 @@ text_at r p t = text_by r.view r p t
 -- the text with the end and the report
 abbrev pub ended_text : View → Run → Past → ℕ → List ℕ
 ended_text Boot r p t = boot_text r.system (cvm_at r p t)
-ended_text (Trace u) r p t = trace_text u (first_of r.system u) (p.shown t) (user_of (cvm_at r p t).core.users u) (cvm_at r p t).status
+ended_text (Trace u) r p t = trace_text u (first_user_machine r.system u) (p.shown t) (user_of (cvm_at r p t).core.users u) (cvm_at r p t).status
 
 -- THE WHOLE TEXT of a run
 abbrev pub whole_text : Run → Past → List ℕ
@@ -55,8 +55,8 @@ pub record Asked (words : List (List ℕ)) (plan : Plan) (session : Session) (s 
   pub enough : sectors_needed session s rows ≤ old.disk.size
 
 -- a run that came to its end has its turns, or an abstract run that is over; and the machine rests as that says
-abbrev pub IsOver : Run → Past → Type 0
-IsOver r p = has_ended r ≡ true → TurnIsOver r.around r.system r.first r.turns (steps_made r) (cvm_at r p (steps_made r))
+abbrev pub EndIsOver : Run → Past → Type 0
+EndIsOver r p = has_ended r ≡ true → TurnIsOver r.around r.system r.first r.turns (steps_made r) (cvm_at r p (steps_made r))
 
 -- WANT OF MEMORY: where memory was wanted nothing was printed, and no sector and no file changed
 pub record Untouched (old new : Outside) : Type 0 where

@@ -18,14 +18,14 @@ use Rattle.cvm_outside.specs.ScriptLaws.{ScriptsBlame, ScriptsTell, ScriptsStore
 use Rattle.boot_turns.specs.Runs.{Run, Past, IsPast}
 use Rattle.run_scripts.specs.Boot.{booted, sectors_needed, steps_before}
 use Rattle.run_scripts.specs.SessionRuns.{run_of}
-use Rattle.run_scripts.specs.Ends.{load_of}
-use Rattle.run_scripts.specs.Headline.{Asked, IsOver}
+use Rattle.run_scripts.specs.Ends.{session_load}
+use Rattle.run_scripts.specs.Headline.{Asked, EndIsOver}
 
 -- what is so of each run that words ask for
 abbrev pub OfRuns : (Run → (load : List Call) → (before : List (List ℕ)) → (held : ℕ) → Type 0) → Type 0
 OfRuns holds = (words : List (List ℕ)) (plan : Plan) (session : Session) (s : ImageSystem) (rows : Rows) (before : List (List ℕ)) (old : Outside) →
     Asked words plan session s rows before old →
-    holds (run_of session s rows old.disk.size before) (load_of session s rows) before (sectors_needed session s rows)
+    holds (run_of session s rows old.disk.size before) (session_load session s rows) before (sectors_needed session s rows)
 
 -- THE RUN IS ONE FROM A START, over a layer that meets its laws, which takes over within so many steps; and the sectors behind the run's are the disk's
 pub record IsStarted (s : ImageSystem) (r : Run) (held : ℕ) (before : List (List ℕ)) (more : ℕ) : Type 0 where
@@ -41,10 +41,10 @@ RunsStart = (words : List (List ℕ)) (plan : Plan) (session : Session) (s : Ima
 
 -- and its end, where it comes to one, is one of the abstract run
 abbrev pub EndsAreOver : Type 0
-EndsAreOver = OfRuns (λ r load before held. (p : Past) → IsPast r p → IsOver r p)
+EndsAreOver = OfRuns (λ r load before held. (p : Past) → IsPast r p → EndIsOver r p)
 
 -- WHAT THE LAWS SAY of runs
-pub record RunLaws : Type 0 where
+pub record LawsOfRuns : Type 0 where
   pub start : RunsStart
   pub machines : (u : CUnit) → MachinesRun (IsTypedState u)
   pub traces : (u : CUnit) → TracesGrow (IsTypedState u)
@@ -57,4 +57,4 @@ pub record ScriptLaws : Type 0 where
   pub tell : ScriptsTell
   pub store : ScriptsStore
   pub calls : ScriptsCount
-  pub runs : RunLaws
+  pub runs : LawsOfRuns

@@ -4,6 +4,8 @@ pub mod Check
 pub mod CompileProgram
 pub mod Command
 pub mod Plan
+pub mod RunStatus
+pub mod RanFrom
 pub mod Boot
 pub mod Saves
 pub mod Resumes
@@ -11,7 +13,6 @@ pub mod Isolation
 pub mod CommandEnds
 pub mod Suffices
 pub mod SessionRuns
-pub mod RunStatus
 pub mod Ends
 pub mod Headline
 pub mod Keys

@@ -48,9 +48,9 @@ use Rattle.c0_types.specs.declared.source_fault.SourceFault.{SourceFault}
 use Rattle.sample_maker.specs.Parts.{SampleParts as Sampled}
 use Rattle.sample_maker.specs.Sample.{sample_of}
 use Rattle.run_scripts.specs.declared.session.Session.{Session}
-use Rattle.run_scripts.specs.Command.{Boot, Command, boot, trace, save, resume, compile_user, compile_kernel, compile_program, link, migrate, sample, check, IsCommand, IsNoCommand, boot_session, trace_session, save_session, sample_session}
+use Rattle.run_scripts.specs.Command.{BootCommand, Command, boot, trace, save, resume, compile_user, compile_kernel, compile_program, link, migrate, sample, check, IsCommand, IsNoCommand, boot_session, trace_session, save_session, sample_session}
 use Rattle.run_scripts.specs.Served.{files_of}
-use Rattle.run_scripts.specs.Check.{Told, TellsObject}
+use Rattle.run_scripts.specs.Check.{CheckTold, TellsObject}
 use Rattle.run_scripts.specs.Refusal.{Refusal, bad_text, bad_source, bad_object, bad_file, bad_program, unlinked, unaccepted, bad_schedule, bad_save, too_long}
 
 -- what is to be done
@@ -106,7 +106,7 @@ AfterFiles layer session image schedule p =
     (answer : Result ImageSystem AcceptFault) × Accepts layer (image_of image) answer × (p ≡ accepted_plan session (schedule_of schedule) answer)
 
 -- boot IMAGE SCHEDULE TURNS STEPS gets the image, then the schedule; and so does a trace, with another session
-abbrev pub BootPlan : (layer : Map → List ℕ → List ℕ) → (List ℕ → Option (List ℕ)) → Boot → Session → Plan → Type 0
+abbrev pub BootPlan : (layer : Map → List ℕ → List ℕ) → (List ℕ → Option (List ℕ)) → BootCommand → Session → Plan → Type 0
 BootPlan layer file b session p = Got (file b.image) (λ image. Got (file b.schedule) (AfterFiles layer session image)) p
 
 -- the frames of memory of a system's machine
@@ -132,22 +132,22 @@ abbrev pub taken_plan : Session → ImageSystem → Rows → Result (List ℕ) S
 taken_plan session s rows answer = planned bad_save (resumes session s rows) answer
 
 -- WHAT WOULD BE BOOTED is taken up; what is refused of the image and the schedule is refused here, too
-abbrev pub taken_up : (bytes : List ℕ) → Plan → Plan
-taken_up bytes (boots session s rows) = taken_plan session s rows (machine_of (wanted_by s rows session.turns) bytes)
-taken_up bytes other = other
+abbrev pub take_up_plan : (bytes : List ℕ) → Plan → Plan
+take_up_plan bytes (boots session s rows) = taken_plan session s rows (machine_of (wanted_by s rows session.turns) bytes)
+take_up_plan bytes other = other
 
 -- AFTER THE FILES of a resume the image is accepted and the schedule read, as for its boot, and then the saved machine is
 abbrev pub AfterThree : (layer : Map → List ℕ → List ℕ) → Session → (image schedule bytes : List ℕ) → Plan → Type 0
-AfterThree layer session image schedule bytes p = (q : Plan) × AfterFiles layer session image schedule q × (p ≡ taken_up bytes q)
+AfterThree layer session image schedule bytes p = (q : Plan) × AfterFiles layer session image schedule q × (p ≡ take_up_plan bytes q)
 
 -- the bytes of a user's image: its words, each as four bytes with the lowest first, and nothing else
-abbrev pub bytes_of : List ℕ → List ℕ
-bytes_of words = flat_map (to_le_bytes w32) words
+abbrev pub user_bytes : List ℕ → List ℕ
+user_bytes words = flat_map (to_le_bytes w32) words
 
 -- AFTER THE TEXT of a user it is assembled
 pub data AfterText (name text : List ℕ) : Plan → Type 0 where
   no_words : (f : AsmFault) → assembled text ≡ Err f → AfterText name text (refuses (bad_text f))
-  assembles : (words : List ℕ) → assembled text ≡ Ok words → AfterText name text (puts name (bytes_of words))
+  assembles : (words : List ℕ) → assembled text ≡ Ok words → AfterText name text (puts name (user_bytes words))
 
 -- AFTER THE SOURCE of a kernel or a user program it is answered by its checked unit, which comes to this, or by its first fault
 abbrev pub AfterCode : (program : Program) → (due : Unit → Plan) → (source : List ℕ) → Plan → Type 0
@@ -163,7 +163,7 @@ AfterKernel name source = AfterCode Kernel (object_plan name source) source
 -- THE IMAGE of a user program is put, unless it has more words than an image may have
 abbrev pub program_plan : (name : List ℕ) → Unit → Plan
 program_plan name u =
-    if nat_lt MAX_IMAGE (length (image_words u)) then refuses (bad_program (TooLarge (length (image_words u)))) else puts name (bytes_of (image_words u))
+    if nat_lt MAX_IMAGE (length (image_words u)) then refuses (bad_program (TooLarge (length (image_words u)))) else puts name (user_bytes (image_words u))
 
 abbrev pub AfterProgram : (name source : List ℕ) → Plan → Type 0
 AfterProgram name source = AfterCode User (program_plan name) source
@@ -178,10 +178,10 @@ abbrev pub before_them : List ℕ → Result (List (List ℕ)) FileFault → Res
 before_them words (Ok users) = Ok (words ∷ users)
 before_them words (Err f) = Err f
 
-abbrev pub words_from : (user : ℕ) → List (List ℕ) → Result (List (List ℕ)) FileFault
-words_from user [] = Ok []
-words_from user (bytes ∷ rest) =
-    if nat_eq (length bytes % 4) 0 then before_them (words_of_bytes bytes) (words_from (suc user) rest) else Err (UserTorn user (length bytes))
+abbrev pub user_words_from : (user : ℕ) → List (List ℕ) → Result (List (List ℕ)) FileFault
+user_words_from user [] = Ok []
+user_words_from user (bytes ∷ rest) =
+    if nat_eq (length bytes % 4) 0 then before_them (words_of_bytes bytes) (user_words_from (suc user) rest) else Err (UserTorn user (length bytes))
 
 -- what is linked is put
 abbrev pub linked_plan : (name : List ℕ) → Result Image LinkFault → Plan
@@ -200,7 +200,7 @@ AfterUsers layer name o params (Err f) p = p ≡ refuses (bad_file f)
 
 -- AFTER THE OBJECT the parameters are read
 abbrev pub AfterParams : (layer : Map → List ℕ → List ℕ) → (name : List ℕ) → Object → (users : List (List ℕ)) → Result Params FileFault → Plan → Type 0
-AfterParams layer name o users (Ok params) p = AfterUsers layer name o params (words_from 1 users) p
+AfterParams layer name o users (Ok params) p = AfterUsers layer name o params (user_words_from 1 users) p
 AfterParams layer name o users (Err f) p = p ≡ refuses (bad_file f)
 
 -- AFTER THE FILES of a system the object is read
@@ -233,12 +233,12 @@ abbrev pub PartsPlan : (layer : Map → List ℕ → List ℕ) → Session → S
 PartsPlan layer session parts p = (front : Result Unit SourceFault) × IsFrontAnswer parts.source front × AfterSource layer session parts front p
 
 -- what a check tells is printed
-abbrev pub told_plan : Told → Plan
+abbrev pub told_plan : CheckTold → Plan
 told_plan told = planned (λ r. r) prints told
 
 -- AFTER THE OBJECT of a check its kernel's stack is told
 abbrev pub AfterChecked : (stack : ℕ) → (bytes : List ℕ) → Plan → Type 0
-AfterChecked stack bytes p = (told : Told) × TellsObject stack bytes told × (p ≡ told_plan told)
+AfterChecked stack bytes p = (told : CheckTold) × TellsObject stack bytes told × (p ≡ told_plan told)
 
 -- WHAT A COMMAND COMES TO: it gets its files, each in its turn, before it looks at any; a save gets what its boot gets, and a sample none
 abbrev pub CommandPlan : (layer : Map → List ℕ → List ℕ) → (List ℕ → Option (List ℕ)) → Command → Plan → Type 0
@@ -262,13 +262,13 @@ pub data PlanComesTo (words : List (List ℕ)) (file : List ℕ → Option (List
   by_command : (c : Command) (p : Plan) → IsCommand words c → CommandPlan layer_image file c p → PlanComesTo words file p
 
 -- files are told
-abbrev pub AreTold : (List ℕ → Option (List ℕ)) → List (List ℕ) → Type 0
-AreTold file [] = ⊤
-AreTold file (name ∷ rest) = IsSome (file name) × AreTold file rest
+abbrev pub FilesAreTold : (List ℕ → Option (List ℕ)) → List (List ℕ) → Type 0
+FilesAreTold file [] = ⊤
+FilesAreTold file (name ∷ rest) = IsSome (file name) × FilesAreTold file rest
 
 -- the files that the words' command gets are told
 abbrev pub AllTold : List (List ℕ) → (List ℕ → Option (List ℕ)) → Type 0
-AllTold words file = (c : Command) → IsCommand words c → AreTold file (files_of c)
+AllTold words file = (c : Command) → IsCommand words c → FilesAreTold file (files_of c)
 
 -- bytes are the image that a sample's parts are linked to
 pub record IsLinkedTo (layer : Map → List ℕ → List ℕ) (parts : Sampled) (bytes : List ℕ) : Type 0 where

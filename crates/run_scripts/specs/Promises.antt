@@ -8,17 +8,17 @@ use Rattle.cvm_outside.specs.declared.sink.Sink as sink_of
 use Rattle.cvm_outside.specs.declared.sectors.Sectors as sectors_of
 use Rattle.cvm_outside.specs.Outside.{Outside}
 use Rattle.run_scripts.specs.declared.exit_status.Status.{Status}
-use Rattle.run_scripts.specs.Command.{texts}
+use Rattle.run_scripts.specs.Command.{word_texts}
 use Rattle.run_scripts.specs.CommandEnds.{Headlines, RunCompletes, Isolates, SavesComplete, ResumesComplete}
 use Rattle.run_scripts.specs.Resumes.{Resumes}
 use Rattle.run_scripts.specs.Saves.{Saves}
 use Rattle.run_scripts.specs.Suffices.{Suffices}
-use Rattle.run_scripts.specs.Ends.{Ends, seen}
+use Rattle.run_scripts.specs.Ends.{Ends, as_outside}
 
 -- of one call: by its words, its status, and what its shelf, its sink and its disk were and are
 abbrev pub OfCall : {S O D : Type 0} → ((words : List (List ℕ)) → Status → (old new : Outside) → Type 0) → shelf_of.Ghosts S → sink_of.Ghosts O →
     sectors_of.Ghosts D → List (String Global) → Status → S → O → D → S → O → D → Type 0
-OfCall Holds shelf sink disk words status s o d t p e = Holds (texts words) status (seen shelf sink disk s o d) (seen shelf sink disk t p e)
+OfCall Holds shelf sink disk words status s o d t p e = Holds (word_texts words) status (as_outside shelf sink disk s o d) (as_outside shelf sink disk t p e)
 
 -- and of each command, by how it ends
 abbrev pub Promised : ((words : List (List ℕ)) → Status → (old new : Outside) → Type 0) → Type 0

@@ -1,16 +1,16 @@
 -- The refusals, with the row and the status of each.
 use Rattle.std.specs.Prelude.{ℕ, ℤ, List, [], ◌∷◌, ◌++◌, Option, Some, None, option_map, decimal, codes}
 use Rattle.std.specs.Fmt.{signed_decimal}
-use Rattle.mips_asm.specs.Fault.{asm_fault_number, asm_fault_place, asm_fault_line, asm_fault_value}
+use Rattle.mips_asm.specs.Fault.{asm_fault_number, asm_fault_position, asm_fault_line, asm_fault_value}
 use Rattle.mips_asm.specs.declared.fault.AsmFault.{AsmFault}
 use Rattle.c0_tree.specs.declared.tree.Span.{Span}
-use Rattle.c0_parser.specs.Faults.{read_fault_number, read_fault_place}
+use Rattle.c0_parser.specs.Faults.{read_fault_number, read_fault_position}
 use Rattle.c0_types.specs.Answer.{type_fault_number, type_fault_span, type_fault_line}
 use Rattle.c0_types.specs.declared.source_fault.SourceFault.{SourceFault}
 use Rattle.c0_types.specs.declared.source_fault.SourceFault.TheVariants.{Reading, Typing}
 use Rattle.user_c0.specs.Compiled.{fault_number as user_fault_number, fault_fields as user_fault_fields}
 use Rattle.user_c0.specs.declared.fault.UserFault.{UserFault}
-use Rattle.object_file.specs.Answer.{object_fault_number, object_fault_place, object_fault_value}
+use Rattle.object_file.specs.Answer.{object_fault_number, object_fault_position, object_fault_value}
 use Rattle.object_file.specs.declared.fault.ObjectFault.{ObjectFault}
 use Rattle.system_files.specs.Fault.{file_fault_number, file_fault_fields}
 use Rattle.system_files.specs.declared.fault.FileFault.{FileFault}
@@ -62,22 +62,22 @@ signed_field_text (Some n) = 32 ∷ signed_decimal n
 -- the row of a fault of a user's text: its number, and the place, the line and the value that it has
 abbrev pub text_fault_row : AsmFault → List ℕ
 text_fault_row f =
-    codes "refused " ++ decimal (asm_fault_number f) ++ field_text (asm_fault_place f) ++ field_text (asm_fault_line f)
+    codes "refused " ++ decimal (asm_fault_number f) ++ field_text (asm_fault_position f) ++ field_text (asm_fault_line f)
     ++ signed_field_text (asm_fault_value f) ++ codes "\n"
 
 -- where a span starts
-abbrev pub start_of : Option Span → Option ℕ
-start_of span = option_map (λ s. s.start) span
+abbrev pub span_start : Option Span → Option ℕ
+span_start span = option_map (λ s. s.start) span
 
 -- where it ends
-abbrev pub end_of : Option Span → Option ℕ
-end_of span = option_map (λ s. s.end) span
+abbrev pub span_end : Option Span → Option ℕ
+span_end span = option_map (λ s. s.end) span
 
 -- the row of a fault of the source of a kernel or a user program: its number, and the byte that it names; or the span that it names, and the line
 abbrev pub source_fault_row : SourceFault → List ℕ
-source_fault_row (Reading f) = codes "refused " ++ decimal (read_fault_number f) ++ field_text (read_fault_place f) ++ codes "\n"
+source_fault_row (Reading f) = codes "refused " ++ decimal (read_fault_number f) ++ field_text (read_fault_position f) ++ codes "\n"
 source_fault_row (Typing f) =
-    codes "refused " ++ decimal (type_fault_number f) ++ field_text (start_of (type_fault_span f)) ++ field_text (end_of (type_fault_span f))
+    codes "refused " ++ decimal (type_fault_number f) ++ field_text (span_start (type_fault_span f)) ++ field_text (span_end (type_fault_span f))
     ++ field_text (type_fault_line f) ++ codes "\n"
 
 -- a row of numbers: the refusal's, and those behind it
@@ -91,7 +91,7 @@ numbers_row number fields = codes "refused " ++ decimal number ++ numbers_text f
 -- the row of a fault of an object: its number, the byte that it names, and the value that stands there
 abbrev pub object_fault_row : ObjectFault → List ℕ
 object_fault_row f =
-    codes "refused " ++ decimal (object_fault_number f) ++ field_text (object_fault_place f) ++ field_text (object_fault_value f) ++ codes "\n"
+    codes "refused " ++ decimal (object_fault_number f) ++ field_text (object_fault_position f) ++ field_text (object_fault_value f) ++ codes "\n"
 
 -- the row of a fault of a schedule: its number, the line, and the value that is out of range
 abbrev pub schedule_fault_row : ScheduleFault → List ℕ

@@ -6,7 +6,7 @@ use Rattle.cvm_outside.specs.Told.{TOO_LONG}
 use Rattle.cvm_words.specs.Bytes.{word}
 use Rattle.schedule_file.specs.Rows.{Rows}
 use Rattle.saved_file.specs.Answer.{answer as machine_of}
-use Rattle.boot_turns.specs.Headline.{Ending}
+use Rattle.boot_run.specs.declared.whole.RunEnd.{RunEnd}
 use Rattle.boot_run.specs.SavedRuns.{IsDisk}
 use Rattle.kernel_linker.specs.Accept.{ImageSystem}
 use Rattle.run_scripts.specs.declared.exit_status.Status.{Status}
@@ -14,12 +14,12 @@ use Rattle.run_scripts.specs.declared.exit_status.Status.TheVariants.{Memory}
 use Rattle.run_scripts.specs.Command.{Save, IsResume, save_session}
 use Rattle.boot_turns.specs.Runs.{Run, state_at, steps_made, has_ended}
 use Rattle.run_scripts.specs.Ends.{GoesOn}
-use Rattle.run_scripts.specs.RunStatus.{power_status}
+use Rattle.run_scripts.specs.RunStatus.{status_of_end, power_status}
 use Rattle.cvm_outside.specs.Outside.{Outside}
 use Rattle.run_scripts.specs.Plan.{wanted_by}
-use Rattle.run_scripts.specs.Boot.{around, booted, first_state, sectors_needed, ended_as, SessionGoesOn, SessionRan, AreFilesOf}
+use Rattle.run_scripts.specs.Boot.{environment_of, booted, start_state, sectors_needed, SessionGoesOn, SessionRan, AreFilesOf}
 use Rattle.run_scripts.specs.Saves.{IsSavedAt, Stopped, IsSavedIn}
-use Rattle.run_scripts.specs.Served.{IsServed}
+use Rattle.run_scripts.specs.Served.{NoCallFails}
 
 -- THE PREMISES: the words of a resume, and files that are an accepted image, a valid schedule and the file of a machine that can be taken up; an honest disk
 -- with sectors enough; and no call fails, for which a shelf is enough that surely gives the three files
@@ -33,7 +33,7 @@ pub record IsHonestResume (words : List (List ℕ)) (c : Save) (s : ImageSystem)
   pub fits : machine_of (wanted_by s rows c.boot.turns) bytes ≡ Ok machine
   pub sectors : old.disk.sectors ≡ Some left
   pub enough : sectors_needed (save_session c) s rows ≤ old.disk.size
-  pub served : IsServed (c.boot.image ∷ c.boot.schedule ∷ c.file ∷ []) old new
+  pub served : NoCallFails (c.boot.image ∷ c.boot.schedule ∷ c.file ∷ []) old new
 
 -- THE RUN is that of the one machine which the file names, over the disk's sectors, and the status is told by its end and its power word; where it comes to no
 -- end all steps are spent, with those that were saved; and no file changes
@@ -53,7 +53,7 @@ pub record IsSavedRun (c : Save) (s : ImageSystem) (rows : Rows) (machine : List
   pub steps : ℕ
   pub disk : IsDisk old.disk.size before
   pub fewer : steps ≤ c.boot.steps
-  pub saved_at : IsSavedAt (around rows old) (booted s rows) (first_state (save_session c) s rows before) turns steps machine left shown
+  pub saved_at : IsSavedAt (environment_of rows old) (booted s rows) (start_state (save_session c) s rows before) turns steps machine left shown
 
 -- THE BOOT AS A WHOLE: the sectors and the status are its, and so is the text behind what the first call showed; and its machine comes to the end of
 -- every turn
@@ -61,10 +61,10 @@ pub record IsBootBehind (c : Save) (s : ImageSystem) (rows : Rows) (before : Lis
     (status : Status) : Type 0 where
   pub after : List (List ℕ)
   pub text : List ℕ
-  pub ending : Ending
+  pub ending : RunEnd
   pub sectors : new.disk.sectors ≡ Some after
   pub printed : new.sink.text ≡ append_known old.sink.text text
-  pub status_is : status ≡ ended_as ending
+  pub status_is : status ≡ status_of_end ending
   pub ran : SessionRan (save_session c) s rows first before after ending (shown ++ text)
   pub goes_on : SessionGoesOn (save_session c) first s rows before
 
@@ -88,7 +88,7 @@ pub record IsLeftBy (c d : Save) (s : ImageSystem) (rows : Rows) (bytes : List �
   pub turns : c.boot.turns ≤ d.boot.turns
   pub steps : c.boot.steps ≤ d.boot.steps
   pub enough : sectors_needed (save_session d) s rows ≤ old.disk.size
-  pub served : IsServed (d.boot.image ∷ d.boot.schedule ∷ d.file ∷ []) old new
+  pub served : NoCallFails (d.boot.image ∷ d.boot.schedule ∷ d.file ∷ []) old new
 
 -- A LAW: where a save printed `saved`, and a resume of the same image and schedule, with as many turns and steps or more, ends over what the first call
 -- left, the text of the first without its last row and that of the second behind it are the text of the boot with the second's turns and steps over the

@@ -12,7 +12,8 @@ use Rattle.mips_machine.specs.Saved.{saved}
 use Rattle.cvm_model.specs.Cvm.{System, Cvm, IsCvm}
 use Rattle.cvm_model.specs.Text.{rows_text}
 use Rattle.saved_file.specs.Answer.{answer as machine_of}
-use Rattle.boot_turns.specs.Headline.{Done as IsDone}
+use Rattle.boot_run.specs.declared.whole.RunEnd.TheVariants.{Done as IsDone}
+use Rattle.boot_run.specs.RunScript.{saved_row}
 use Rattle.boot_run.specs.SavedRuns.{IsDisk}
 use Rattle.kernel_linker.specs.Accept.{ImageSystem}
 use Rattle.boot_run.specs.SaveRoom.{FILE_ROOM}
@@ -22,18 +23,14 @@ use Rattle.run_scripts.specs.declared.session.Session.{Session}
 use Rattle.run_scripts.specs.Command.{Save, IsSave, save_session}
 use Rattle.cvm_outside.specs.Outside.{Outside}
 use Rattle.run_scripts.specs.Plan.{most_bytes, wanted_by}
-use Rattle.run_scripts.specs.Boot.{around, booted, first_state, sectors_needed, SessionGoesOn, SessionRan, Headline, AreFilesOf}
+use Rattle.run_scripts.specs.Boot.{environment_of, booted, start_state, sectors_needed, SessionGoesOn, SessionRan, Headline, AreFilesOf}
 use Rattle.run_scripts.specs.Served.{Unfailed}
-
--- the row that is printed in place of all from `stopped` on
-abbrev pub saved_row : List ℕ
-saved_row = codes "saved\n"
 
 -- the machine is off, by a kernel that halted
 abbrev pub SessionHalted : Session → ImageSystem → Rows → (before : List (List ℕ)) → Outside → Type 0
 SessionHalted session s rows before old =
-    (run (around rows old) (first_state session s rows before)
-    (end_within (around rows old) (first_state session s rows before) session.turns session.steps)).off ≡ Some 0
+    (run (environment_of rows old) (start_state session s rows before)
+    (end_within (environment_of rows old) (start_state session s rows before) session.turns session.steps)).off ≡ Some 0
 
 -- THE SAVED RUN of so many turns, from `s`: the first step at which they are complete comes within the steps; the machine is on there, and the abstract
 -- run has come to `past`; the words are those of the machine, with these turns and its current user; `left` are its sectors, and `shown` is the run's text
@@ -59,7 +56,7 @@ pub record Stopped (session : Session) (s : ImageSystem) (rows : Rows) (before :
   pub rest : List ℕ
   pub disk : IsDisk old.disk.size before
   pub sectors : new.disk.sectors ≡ Some after
-  pub saved_at : IsSavedAt (around rows old) (booted s rows) (first_state session s rows before) session.turns session.steps words after shown
+  pub saved_at : IsSavedAt (environment_of rows old) (booted s rows) (start_state session s rows before) session.turns session.steps words after shown
   pub ran : SessionRan session s rows old before after IsDone (shown ++ (codes "stopped\n" ++ rest))
   pub goes_on : SessionGoesOn session old s rows before
   pub short : length (flat_map word words) ≤ FILE_ROOM

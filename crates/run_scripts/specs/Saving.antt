@@ -1,5 +1,5 @@
 -- SAVE AND RESUME, as laws of scripts: together they make the calls of the boot.
-use Rattle.std.specs.Prelude.{◌≡◌, ◌≢◌, ℕ, ◌≤◌, true, List, [], ◌∷◌, ◌++◌, Option, Some}
+use Rattle.std.specs.Prelude.{◌≡◌, ◌≢◌, ℕ, ◌≤◌, true, List, [], ◌∷◌, ◌++◌, Option}
 use Rattle.schedule_file.specs.Rows.{Rows}
 use Rattle.cvm_model.specs.Cvm.{Running}
 use Rattle.cvm_model.specs.Kernel.{MeaningLaws}
@@ -8,13 +8,12 @@ use Rattle.run_scripts.specs.declared.exit_status.Status.{Status}
 use Rattle.run_scripts.specs.declared.exit_status.Status.TheVariants.{Shelf, Memory}
 use Rattle.run_scripts.specs.Command.{Save, IsResume, save_session}
 use Rattle.run_scripts.specs.Plan.{resumes}
-use Rattle.run_scripts.specs.Saves.{saved_row}
-use Rattle.cvm_outside.specs.Script.{Call, Printed, Stored, Who, Performs}
+use Rattle.cvm_outside.specs.Script.{Call, Who, Performs}
 use Rattle.cvm_outside.specs.Outside.{Outside}
 use Rattle.boot_turns.specs.Runs.{Run, Past, IsPast, steps_made, has_ended, cvm_at}
 use Rattle.boot_turns.specs.declared.answers.View.TheVariants.{Boot}
-use Rattle.boot_run.specs.RunScript.{rest_script, run_script}
-use Rattle.run_scripts.specs.RunStatus.{save_script, saved_bytes, run_status}
+use Rattle.boot_run.specs.RunScript.{rest_script, run_script, saved_bytes, save_script, put_script}
+use Rattle.run_scripts.specs.RunStatus.{run_status}
 use Rattle.run_scripts.specs.Ends.{Ends, SavedRun, answered}
 use Rattle.run_scripts.specs.Headline.{Asked}
 
@@ -22,7 +21,7 @@ use Rattle.run_scripts.specs.Headline.{Asked}
 pub record AreJoined (name : List ℕ) (r q : Run) (load : List Call) (p o : Past) : Type 0 where
   pub front : List Call
   pub saved : (cvm_at q o (steps_made q)).status ≡ Running →
-      save_script name q load o ≡ front ++ (Stored name (saved_bytes q o) ∷ Printed (Some saved_row) ∷ [])
+      save_script name q load o ≡ front ++ put_script name (saved_bytes q o)
   pub whole : front ++ rest_script r p (steps_made q) ≡ run_script r load p
 
 -- of each run that comes to its end in no more turns and steps than another of the same machine, whatever the end is

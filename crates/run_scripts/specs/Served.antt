@@ -33,9 +33,9 @@ file_put (migrate m) = Some m.image
 file_put other = None
 
 -- the shelf surely gives these files
-abbrev pub AreGiven : (gives : List ℕ → Bool) → List (List ℕ) → Type 0
-AreGiven gives [] = ⊤
-AreGiven gives (name ∷ rest) = (gives name ≡ true) × AreGiven gives rest
+abbrev pub AreSurelyGiven : (gives : List ℕ → Bool) → List (List ℕ) → Type 0
+AreSurelyGiven gives [] = ⊤
+AreSurelyGiven gives (name ∷ rest) = (gives name ≡ true) × AreSurelyGiven gives rest
 
 -- NO CALL FAILED: neither shelf nor sink nor disk counted a fault
 pub record Unfailed (old new : Outside) : Type 0 where
@@ -44,17 +44,21 @@ pub record Unfailed (old new : Outside) : Type 0 where
   pub disk : Rose old.disk.faults new.disk.faults → ⊥
 
 -- NO CALL FAILS of a command that gets these files and puts none: the shelf surely gives them, or it counted no fault; and neither sink nor disk counted one
-pub record IsServed (names : List (List ℕ)) (old new : Outside) : Type 0 where
-  pub shelf : AreGiven old.shelf.gives names ⊎ (Rose old.shelf.faults new.shelf.faults → ⊥)
+pub record NoCallFails (names : List (List ℕ)) (old new : Outside) : Type 0 where
+  pub shelf : AreSurelyGiven old.shelf.gives names ⊎ (Rose old.shelf.faults new.shelf.faults → ⊥)
   pub sink : Rose old.sink.faults new.sink.faults → ⊥
   pub disk : Rose old.disk.faults new.disk.faults → ⊥
 
 -- the shelf surely gives the files that a command gets, which puts none; or it counted no fault
 abbrev pub ShelfServes : Command → (old new : Outside) → Type 0
-ShelfServes c old new = (AreGiven old.shelf.gives (files_of c) × (file_put c ≡ None)) ⊎ (Rose old.shelf.faults new.shelf.faults → ⊥)
+ShelfServes c old new = (AreSurelyGiven old.shelf.gives (files_of c) × (file_put c ≡ None)) ⊎ (Rose old.shelf.faults new.shelf.faults → ⊥)
 
--- so it is of the command that the words are: the shelf serves it, and neither sink nor disk counted a fault
+-- so it is of the command that the words are
+abbrev pub ServesWords : List (List ℕ) → (old new : Outside) → Type 0
+ServesWords words old new = (c : Command) → IsCommand words c → ShelfServes c old new
+
+-- NO CALL FAILED of the command that the words are: the shelf serves it, and neither sink nor disk counted a fault
 pub record NoneFailed (words : List (List ℕ)) (old new : Outside) : Type 0 where
-  pub shelf : (c : Command) → IsCommand words c → ShelfServes c old new
+  pub shelf : ServesWords words old new
   pub sink : Rose old.sink.faults new.sink.faults → ⊥
   pub disk : Rose old.disk.faults new.disk.faults → ⊥

@@ -10,7 +10,7 @@ use Rattle.kernel_linker.specs.Accept.{ImageSystem}
 use Rattle.run_scripts.specs.declared.session.Session.{Session}
 use Rattle.run_scripts.specs.declared.session.StartPoint.{StartPoint}
 use Rattle.run_scripts.specs.declared.session.StartPoint.TheVariants.{Loaded, Rom}
-use Rattle.run_scripts.specs.Boot.{booted, first_state}
+use Rattle.run_scripts.specs.Boot.{booted, start_state}
 
 -- the pages that the load of a run from there writes
 abbrev pub pages_loaded : StartPoint → System → Pages
@@ -22,7 +22,7 @@ abbrev pub run_of : Session → ImageSystem → Rows → (size : ℕ) → (secto
 run_of session s rows size sectors = record {
   around = outside_of rows size;
   system = booted s rows;
-  first = first_state session s rows sectors;
+  first = start_state session s rows sectors;
   view = session.view;
   turns = session.turns;
   steps = session.steps;

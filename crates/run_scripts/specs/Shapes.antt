@@ -10,7 +10,7 @@ use Rattle.run_scripts.specs.Plan.{Plan, refuses, PlanComesTo}
 use Rattle.cvm_outside.specs.Script.{Call, Got, Stored, Who, Performs}
 use Rattle.cvm_outside.specs.Outside.{Outside, shelf_counts}
 use Rattle.cvm_outside.specs.Numbering.{called}
-use Rattle.run_scripts.specs.Ends.{Ends, done, no_file, no_memory, Does, PlanAsks, IsNotGot, Wants, AreShort, MayBeLong, answered}
+use Rattle.run_scripts.specs.Ends.{Ends, done, no_file, no_memory, WasDone, PlanAsks, IsNotGot, Wants, AreShort, MayBeLong, answered}
 use Rattle.run_scripts.specs.Served.{files_of, gets, file_put}
 
 -- a command that loads a machine
@@ -39,13 +39,13 @@ NamedBy named (name ∷ []) = named ≡ Some name
 NamedBy named more = ⊥
 
 -- of the calls behind the gets none is a get, and at most one puts a file, the one that the words name
-pub record Shape (c : Command) (script : List Call) : Type 0 where
+pub record ScriptShape (c : Command) (script : List Call) : Type 0 where
   pub gets : gets_in script ≡ []
   pub puts : NamedBy (file_put c) (puts_in script)
 
 abbrev pub PlansHaveShape : Type 0
 PlansHaveShape = (words : List (List ℕ)) (file : List ℕ → Option (List ℕ)) (c : Command) (p : Plan) (at : Outside) (script : List Call) (due : Status) →
-    IsCommand words c → PlanComesTo words file p → PlanAsks p at script due → Shape c script
+    IsCommand words c → PlanComesTo words file p → PlanAsks p at script due → ScriptShape c script
 
 -- the files but the one that is named are as before
 abbrev pub OthersStay : Type 0
@@ -92,7 +92,7 @@ AreGot old new made rest = ((rest ≡ []) × (made ≢ [] → new.shelf.taken �
 -- made behind it; or memory was wanted, with some of the gets made and nothing else
 pub data GotInOrder (c : Command) (old new : Outside) : Status → Type 0 where
   were_got : (status due : Status) (made rest : List (List ℕ)) (mid : Outside) (script : List Call) (blamed : Option Who) → made ++ rest ≡ files_of c →
-      AreGot old new made rest → Performs (gets made) old mid None → Shape c script → Performs script mid new blamed → status ≡ answered due blamed →
+      AreGot old new made rest → Performs (gets made) old mid None → ScriptShape c script → Performs script mid new blamed → status ≡ answered due blamed →
       GotInOrder c old new status
   ungot : IsNotGot (files_of c) old new → GotInOrder c old new Shelf
   wanting : Wants (files_of c) old new → GotInOrder c old new Memory
@@ -103,5 +103,5 @@ GetsComeFirst = (words : List (List ℕ)) (c : Command) (old new : Outside) (sta
 
 -- HOW OFTEN THE SHELF IS CALLED where nobody is blamed and no file is too long: once for each file that is named, and once for one that is put
 abbrev pub ShelfIsCalled : Type 0
-ShelfIsCalled = (words : List (List ℕ)) (c : Command) (old new : Outside) (status : Status) → IsCommand words c → (h : Does words old new status) →
+ShelfIsCalled = (words : List (List ℕ)) (c : Command) (old new : Outside) (status : Status) → IsCommand words c → (h : WasDone words old new status) →
     h.plan ≢ refuses too_long → h.blamed ≡ None → new.shelf.calls ≡ called (length (files_of c) + length (puts_in h.script)) (shelf_counts old.shelf)

@@ -16,7 +16,7 @@ use bound_check::longest_chains_are_kept;
 use c0_meaning::laws::units_are_typed_or_faulty;
 use c0_meaning::run_laws::zeros_have_the_words_of_their_types;
 use c0_types::laws::{sources_have_one_answer, units_of_sources_are_checked};
-use c0_unit::laws::{trees_have_places, units_are_short, units_stand};
+use c0_unit::laws::{trees_have_addresses, units_are_short, units_stand};
 use cvm_model::{
     units_are_kernels, units_dont_matter, units_replay, units_stay_typed, users_are_isolated,
 };
@@ -50,7 +50,7 @@ pub fn runs_start()
     units_are_typed_or_faulty();
     zeros_have_the_words_of_their_types();
     units_are_short();
-    trees_have_places();
+    trees_have_addresses();
     units_stand();
     units_are_kernels();
     units_stay_typed();

@@ -8,8 +8,8 @@ abbrev pub text_of : List (List ℕ) → List ℕ
 text_of lines = flat_map (λ line. line ++ 10 ∷ []) lines
 
 -- the program's text
-unfoldable pub program : List ℕ
-program = text_of (
+unfoldable pub program_text : List ℕ
+program_text = text_of (
     codes "ori r2, r0, 61440" ∷
     codes "fill: sw r1, 0(r2)" ∷
     codes "addiu r1, r1, 1" ∷
@@ -25,7 +25,7 @@ program = text_of (
     [])
 
 -- its words
-abbrev pub program_words : List ℕ
-program_words =
+abbrev pub sample_words : List ℕ
+sample_words =
     0x3402f000 ∷ 0xac410000 ∷ 0x24210001 ∷ 0x2442f000 ∷ 0x1c40fffc ∷ 0x3402f000 ∷
     0x8c430000 ∷ 0x00832021 ∷ 0xac400000 ∷ 0x2442f000 ∷ 0x1c40fffb ∷ 0x0000000c ∷ []

@@ -6,8 +6,8 @@ use Rattle.schedule_file.specs.declared.row.Row.{Row}
 use Rattle.schedule_file.specs.declared.row.Row.TheVariants.{Line, Busy}
 use Rattle.schedule_file.specs.Spelling.{spelling}
 use Rattle.sample_maker.specs.Parts.{SampleParts}
-use Rattle.sample_maker.specs.Program.{program_words}
-use Rattle.sample_maker.specs.Source.{pattern, filled}
+use Rattle.sample_maker.specs.Program.{sample_words}
+use Rattle.sample_maker.specs.Source.{pattern, filled_pattern}
 
 -- the number of users, 3 to 16
 abbrev pub user_count : ℕ → ℕ
@@ -19,15 +19,15 @@ base_of number = number % 1000
 
 -- the kernel's source
 abbrev pub source_of : ℕ → List ℕ
-source_of number = filled (user_count number) (base_of number) pattern
+source_of number = filled_pattern (user_count number) (base_of number) pattern
 
 -- the parameters: few frames for many pages
-abbrev pub params_of : ℕ → Params
-params_of number = record { pages = 16; frames = 2 + number % 7; heap = 0; stack = 64 }
+abbrev pub sample_params : ℕ → Params
+sample_params number = record { pages = 16; frames = 2 + number % 7; heap = 0; stack = 64 }
 
 -- the words of the users: user 1 has the program, and the others have none
-abbrev pub users_of : ℕ → List (List ℕ)
-users_of number = program_words ∷ replicate (user_count number - 1) []
+abbrev pub sample_users : ℕ → List (List ℕ)
+sample_users number = sample_words ∷ replicate (user_count number - 1) []
 
 -- a line is raised every 20,000 steps, forty times
 abbrev pub line_row : ℕ → Row
@@ -38,18 +38,18 @@ abbrev pub busy_row : ℕ → ℕ → Row
 busy_row number n = Busy n ((n + number) % 50)
 
 -- a row of the schedule, ended by LF
-abbrev pub row_text : Row → List ℕ
-row_text row = spelling row ++ 10 ∷ []
+abbrev pub schedule_row_text : Row → List ℕ
+schedule_row_text row = spelling row ++ 10 ∷ []
 
 -- the text of rows
-abbrev pub rows_text : List Row → List ℕ
-rows_text rows = flat_map row_text rows
+abbrev pub schedule_rows_text : List Row → List ℕ
+schedule_rows_text rows = flat_map schedule_row_text rows
 
 -- the schedule's text
-abbrev pub schedule_of : ℕ → List ℕ
-schedule_of number = rows_text (map line_row (range_with_len 1 40)) ++ rows_text (map (busy_row number) (range_with_len 0 100))
+abbrev pub sample_schedule : ℕ → List ℕ
+sample_schedule number = schedule_rows_text (map line_row (range_with_len 1 40)) ++ schedule_rows_text (map (busy_row number) (range_with_len 0 100))
 
 -- the sample of a number
 unfoldable pub sample_of : ℕ → SampleParts
 sample_of number =
-    record { source = source_of number; params = params_of number; users = users_of number; schedule = schedule_of number }
+    record { source = source_of number; params = sample_params number; users = sample_users number; schedule = sample_schedule number }

@@ -49,5 +49,5 @@ abbrev pub filled_byte : ℕ → ℕ → ℕ → List ℕ
 filled_byte users base c = if c == 85 then decimal users else (if c == 75 then decimal base else c ∷ [])
 
 -- a pattern with numbers for its letters
-abbrev pub filled : ℕ → ℕ → List ℕ → List ℕ
-filled users base text = flat_map (filled_byte users base) text
+abbrev pub filled_pattern : ℕ → ℕ → List ℕ → List ℕ
+filled_pattern users base text = flat_map (filled_byte users base) text

@@ -2,7 +2,7 @@
 
 ghost use Rattle.std.specs.Prelude.{◌≡◌, ◌≤◌, ◌-◌, ◌∷◌, [], IfOk, Ok, map, replicate};
 ghost use Rattle.mips_asm.specs.Assembled.{assembled};
-ghost use Rattle.sample_maker.specs.Program.{program, program_words};
+ghost use Rattle.sample_maker.specs.Program.{program_text, sample_words};
 
 use mips_asm::assemble;
 use std::alloc::{AllocError, Global};
@@ -24,12 +24,12 @@ syscall
 
 /// A law: the words of user 1 are those that the text of its program is assembled to.
 pub fn program_is_assembled()
-    ensures { assembled program ≡ Ok program_words }
+    ensures { assembled program_text ≡ Ok sample_words }
 {}
 
 // The program's words.
 fn words_in(alloc: Global) -> Result<Vec<u32>, AllocError>
-    ensures { IfOk result (λ ws. ws.items ≡ program_words) }
+    ensures { IfOk result (λ ws. ws.items ≡ sample_words) }
 {
     program_is_assembled();
     match assemble(alloc, PROGRAM) {
@@ -41,7 +41,7 @@ fn words_in(alloc: Global) -> Result<Vec<u32>, AllocError>
 /// The words of so many users: the first has the program, and the others have none.
 pub fn users_in(alloc: Global, count: u32) -> Result<Vec<Vec<u32>>, AllocError>
     requires { 1 ≤ count }
-    ensures { IfOk result (λ v. map (λ u. u.items) v.items ≡ program_words ∷ replicate (count - 1) []) }
+    ensures { IfOk result (λ v. map (λ u. u.items) v.items ≡ sample_words ∷ replicate (count - 1) []) }
 {
     let mut users = Vec::with_capacity(alloc, count as usize)?;
     users.push(words_in(alloc)?)?;

@@ -1,7 +1,7 @@
 // The kernel's source.
 
 ghost use Rattle.std.specs.Prelude.{◌≡◌, ◌++◌, IfOk, OnOk};
-ghost use Rattle.sample_maker.specs.Source.{pattern, filled, filled_byte};
+ghost use Rattle.sample_maker.specs.Source.{pattern, filled_pattern, filled_byte};
 
 use cvm_text::decimal_u64;
 use std::alloc::{AllocError, Global};
@@ -57,7 +57,7 @@ fn push_filled(text: &mut Vec<u8>, users: u32, base: u32, byte: u8) -> Result<()
 
 // A pattern with numbers for its letters.
 fn filled_in(alloc: Global, users: u32, base: u32, pattern: &[u8]) -> Result<Vec<u8>, AllocError>
-    ensures { IfOk result (λ v. v.items ≡ filled users base pattern.now) }
+    ensures { IfOk result (λ v. v.items ≡ filled_pattern users base pattern.now) }
 {
     let mut text = Vec::new(alloc);
     for byte in pattern {
@@ -68,7 +68,7 @@ fn filled_in(alloc: Global, users: u32, base: u32, pattern: &[u8]) -> Result<Vec
 
 /// The kernel's source for so many users, who begin with the numbers above `base`.
 pub fn source_in(alloc: Global, users: u32, base: u32) -> Result<Vec<u8>, AllocError>
-    ensures { IfOk result (λ v. v.items ≡ filled users base pattern) }
+    ensures { IfOk result (λ v. v.items ≡ filled_pattern users base pattern) }
 {
     filled_in(alloc, users, base, PATTERN)
 }

@@ -7,8 +7,8 @@ use Rattle.cvm_words.specs.Bytes.{word}
 use Rattle.cvm_words.proofs.BytesOfWords.{length-words, words_of-words}
 use Rattle.mips_table.specs.Machine.{LOG_ROOM}
 use Rattle.mips_machine.specs.Saved.{MARK, from_halves}
-use Rattle.saved_file.specs.Resumable.{Wanted, CanBeResumed, memory_word, is_left_out, size_at}
-use Rattle.saved_file.specs.Tests.{Test, tests, each, is_outside, field, whole, linked_test, size_test, turns_test}
+use Rattle.saved_file.specs.Resumable.{Wanted, CanBeResumed, memory_word, is_left_out, saved_size_at}
+use Rattle.saved_file.specs.Tests.{Test, tests, each, is_outside, field_test, whole, linked_test, size_test, turns_test}
 use Rattle.saved_file.specs.Answer.{TestPasses, answer, AnswersAreResumable, ResumablesAreAnswered}
 use Rattle.saved_file.proofs.Deciding.{not_above}
 use Rattle.saved_file.proofs.Words.{words_length, answered, answer_words}
@@ -106,17 +106,17 @@ fitting w bytes words h enough =
       a_turn = turns.0;
       a_user = user.0;
       user = user.1;
-      unforged = λ place lt kept.
-          let t = each_at (length words) (linked_test w.frames w.linked words) 0 (length w.linked) place (front_row (length words) linked (sizes ++ turns_test w.frames w.turns words ∷ []) left) (omega arith) (omega (arith, lt)) in
-          same_word (is_left_out place) (memory_word words place) (slice_index w.linked place) t.1 kept;
+      unforged = λ position lt kept.
+          let t = each_at (length words) (linked_test w.frames w.linked words) 0 (length w.linked) position (front_row (length words) linked (sizes ++ turns_test w.frames w.turns words ∷ []) left) (omega arith) (omega (arith, lt)) in
+          same_word (is_left_out position) (memory_word words position) (slice_index w.linked position) t.1 kept;
       sizes = λ u some few.
           let t = each_at (length words) (size_test w.frames w.pages words) 1 w.users u (front_row (length words) sizes (turns_test w.frames w.turns words ∷ []) behind) some (omega (arith, few)) in
-          not_above w.pages (memory_word words (size_at u)) t.1;
+          not_above w.pages (memory_word words (saved_size_at u)) t.1;
       turns = let last = behind_row (length words) sizes (turns_test w.frames w.turns words ∷ []) behind in not_above w.turns (slice_index words 5) last.0.1;
     }
 
-field_passed : (words : List ℕ) (place least most : ℕ) → place < length words → least ≤ slice_index words place → slice_index words place ≤ most → TestPasses (length words) (field words place least most)
-field_passed words place least most there low high = (omega (arith, there), not_outside least most (slice_index words place) low high)
+field_passed : (words : List ℕ) (position least most : ℕ) → position < length words → least ≤ slice_index words position → slice_index words position ≤ most → TestPasses (length words) (field_test words position least most)
+field_passed words position least most there low high = (omega (arith, there), not_outside least most (slice_index words position) low high)
 
 -- and the other way round
 pub passed : (w : Wanted) (words : List ℕ) → All (λ n. n < 2 ^ 32) words → CanBeResumed w words → AllByRecursion (TestPasses (length words)) (tests w (4 * length words) words)
@@ -162,10 +162,10 @@ passed w words bits c =
                                 (omega (arith, n), le-ltb (4 * whole w.frames words) (4 * length words) (omega (arith, n))),
                                 rows (length words) (each (linked_test w.frames w.linked words) 0 (length w.linked)) (each (size_test w.frames w.pages words) 1 w.users ++ turns_test w.frames w.turns words ∷ [])
                                     (each_of (length words) (linked_test w.frames w.linked words) 0 (length w.linked)
-                                    (λ place le lt. (omega (arith, n), not_wrong (is_left_out place) (memory_word words place) (slice_index w.linked place) (c.unforged place (omega (arith, lt))))))
+                                    (λ position le lt. (omega (arith, n), not_wrong (is_left_out position) (memory_word words position) (slice_index w.linked position) (c.unforged position (omega (arith, lt))))))
                                     (rows (length words) (each (size_test w.frames w.pages words) 1 w.users) (turns_test w.frames w.turns words ∷ [])
                                     (each_of (length words) (size_test w.frames w.pages words) 1 w.users
-                                    (λ u some few. (omega (arith, n), le-ltb w.pages (memory_word words (size_at u)) (c.sizes u some (omega (arith, few))))))
+                                    (λ u some few. (omega (arith, n), le-ltb w.pages (memory_word words (saved_size_at u)) (c.sizes u some (omega (arith, few))))))
                                     ((omega (arith, n), le-ltb w.turns (slice_index words 5) c.turns), tt)),
                               ),
                             ),

@@ -6,7 +6,7 @@ use Rattle.mips_table.specs.Device.{Environment}
 use Rattle.mips_table.specs.Fits.{IsWord}
 use Rattle.mips_table.specs.Machine.{State}
 use Rattle.mips_machine.specs.Saved.{MARK, two_words, head, saved, CanBeSaved, AreSaved, SavedIsAccepted}
-use Rattle.saved_file.specs.Resumable.{Wanted, CanBeResumed, memory_word, size_at}
+use Rattle.saved_file.specs.Resumable.{Wanted, CanBeResumed, memory_word, saved_size_at}
 use Rattle.saved_file.specs.Answer.{answer, IsOfRun, SavedIsReadBack}
 use Rattle.saved_file.proofs.Fitting.{resumables}
 
@@ -43,12 +43,12 @@ module _ (inputs : List ℕ) (s : State) (turns user : ℕ) (c : CanBeSaved inpu
       omega (arith, all, buffer, front, e, f, g)
 
   -- memory stands behind the buffer
-  pub memory_at : (place : ℕ) → memory_word (saved inputs s turns user) place ≡ slice_index s.memory place
-  memory_at place =
+  pub memory_at : (position : ℕ) → memory_word (saved inputs s turns user) position ≡ slice_index s.memory position
+  memory_at position =
       let n = log_at in
-      behind (head inputs s turns user) (s.log ++ (s.device.buffer ++ s.memory)) 56 (length s.log + (1024 + place)) (1080 + slice_index (saved inputs s turns user) 55 + place) (head_length inputs s turns user c) (omega (arith, n))
-      ∙ behind s.log (s.device.buffer ++ s.memory) (length s.log) (1024 + place) (length s.log + (1024 + place)) refl refl
-      ∙ behind s.device.buffer s.memory 1024 place (1024 + place) c.buffer refl
+      behind (head inputs s turns user) (s.log ++ (s.device.buffer ++ s.memory)) 56 (length s.log + (1024 + position)) (1080 + slice_index (saved inputs s turns user) 55 + position) (head_length inputs s turns user c) (omega (arith, n))
+      ∙ behind s.log (s.device.buffer ++ s.memory) (length s.log) (1024 + position) (length s.log + (1024 + position)) refl refl
+      ∙ behind s.device.buffer s.memory 1024 position (1024 + position) c.buffer refl
 
 -- a list of words
 record Are (l : List ℕ) : Type 0 where
@@ -98,8 +98,8 @@ can_resume accepted x w s turns user r =
       a_turn = r.a_turn;
       a_user = r.a_user;
       user = r.of_users;
-      unforged = λ place lt kept. at place ∙ r.linked place lt kept;
-      sizes = λ u some few. subst (λ (n : ℕ). n ≤ w.pages) (sym (at (size_at u))) (r.sizes u some few);
+      unforged = λ position lt kept. at position ∙ r.linked position lt kept;
+      sizes = λ u some few. subst (λ (n : ℕ). n ≤ w.pages) (sym (at (saved_size_at u))) (r.sizes u some few);
       turns = r.enough;
     }
 

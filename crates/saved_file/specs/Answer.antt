@@ -9,7 +9,7 @@ use Rattle.mips_table.specs.declared.special.TheConstants.{MODE}
 use Rattle.mips_table.specs.Machine.{State}
 use Rattle.mips_table.specs.Steady.{Steady}
 use Rattle.mips_machine.specs.Saved.{saved, CanBeSaved}
-use Rattle.saved_file.specs.Resumable.{Wanted, CanBeResumed, is_left_out, size_at}
+use Rattle.saved_file.specs.Resumable.{Wanted, CanBeResumed, is_left_out, saved_size_at}
 use Rattle.saved_file.specs.Tests.{Test, tests, all_tried}
 use Rattle.saved_file.specs.declared.fault.SaveFault.{SaveFault}
 use Rattle.saved_file.specs.declared.fault.SaveFault.TheVariants.{Truncated}
@@ -72,8 +72,8 @@ pub record IsOfRun (x : Environment) (w : Wanted) (s : State) (turns user : ℕ)
   pub a_user : 1 ≤ user
   pub of_users : user ≤ w.users
   pub users : user < 2 ^ 32
-  pub linked : (place : ℕ) → place < length w.linked → is_left_out place ≡ false → slice_index s.memory place ≡ slice_index w.linked place
-  pub sizes : (u : ℕ) → 1 ≤ u → u ≤ w.users → slice_index s.memory (size_at u) ≤ w.pages
+  pub linked : (position : ℕ) → position < length w.linked → is_left_out position ≡ false → slice_index s.memory position ≡ slice_index w.linked position
+  pub sizes : (u : ℕ) → 1 ≤ u → u ≤ w.users → slice_index s.memory (saved_size_at u) ≤ w.pages
 
 -- A LAW OF SAVING: the bytes of a saved machine are read back as its words, which can be taken up
 abbrev pub SavedIsReadBack : (Wanted → List ℕ → Result (List ℕ) SaveFault) → Type 0

@@ -8,8 +8,8 @@ abbrev pub save_fault_number : SaveFault → ℕ
 save_fault_number Magic = 100
 save_fault_number (Truncated at) = 101
 save_fault_number (Trailing at) = 102
-save_fault_number (Field place value) = 103
-save_fault_number (ForgedWord place stored made) = 104
+save_fault_number (Field position value) = 103
+save_fault_number (ForgedWord position stored made) = 104
 save_fault_number (SizeTooLarge user pages) = 105
 save_fault_number (TurnsDone saved wanted) = 106
 save_fault_number (SaveTooLarge bytes) = 107
@@ -20,8 +20,8 @@ abbrev pub save_fault_fields : SaveFault → List ℕ
 save_fault_fields Magic = []
 save_fault_fields (Truncated at) = at ∷ []
 save_fault_fields (Trailing at) = at ∷ []
-save_fault_fields (Field place value) = place ∷ value ∷ []
-save_fault_fields (ForgedWord place stored made) = place ∷ stored ∷ made ∷ []
+save_fault_fields (Field position value) = position ∷ value ∷ []
+save_fault_fields (ForgedWord position stored made) = position ∷ stored ∷ made ∷ []
 save_fault_fields (SizeTooLarge user pages) = user ∷ pages ∷ []
 save_fault_fields (TurnsDone saved wanted) = saved ∷ wanted ∷ []
 save_fault_fields (SaveTooLarge bytes) = bytes ∷ []

@@ -3,7 +3,7 @@ use Rattle.std.specs.Prelude.{ℕ, zero, suc, ◌+◌, ◌-◌, ◌*◌, ◌^◌
 use Rattle.cvm_words.specs.Reading.{◌>>=◌}
 use Rattle.mips_table.specs.Machine.{LOG_ROOM}
 use Rattle.mips_machine.specs.Saved.{MARK, from_halves}
-use Rattle.saved_file.specs.Resumable.{Wanted, memory_place, memory_word, is_left_out, size_at}
+use Rattle.saved_file.specs.Resumable.{Wanted, memory_position, memory_word, is_left_out, saved_size_at}
 use Rattle.saved_file.specs.declared.fault.SaveFault.{SaveFault}
 use Rattle.saved_file.specs.declared.fault.SaveFault.TheVariants.{Magic, Truncated, Trailing, Field, ForgedWord, SizeTooLarge, TurnsDone}
 
@@ -21,10 +21,10 @@ is_outside least most value = nat_lt value least || nat_lt most value
 abbrev pub mark_test : List ℕ → Test
 mark_test words = record { takes = 1; wrong = is_outside MARK MARK (slice_index words 0); fault = Magic }
 
--- the word at a place is in its range
-abbrev pub field : List ℕ → (place least most : ℕ) → Test
-field words place least most =
-    record { takes = suc place; wrong = is_outside least most (slice_index words place); fault = Field place (slice_index words place) }
+-- the word at a position is in its range
+abbrev pub field_test : List ℕ → (position least most : ℕ) → Test
+field_test words position least most =
+    record { takes = suc position; wrong = is_outside least most (slice_index words position); fault = Field position (slice_index words position) }
 
 -- the number of the next command of the disk, in two words, is at most that of the steps done
 abbrev pub commands_test : List ℕ → Test
@@ -36,19 +36,20 @@ commands_test words =
 -- the head's first fields: the mark, the form, the frames of memory, the complete turns, the current user, and the mask
 abbrev pub first_tests : (frames users : ℕ) → List ℕ → List Test
 first_tests frames users words =
-    mark_test words ∷ field words 1 1 1 ∷ field words 2 frames frames ∷ field words 5 1 (2 ^ 32 - 1) ∷ field words 6 1 users ∷ field words 7 0 255 ∷ []
+    mark_test words ∷ field_test words 1 1 1 ∷ field_test words 2 frames frames ∷ field_test words 5 1
+    (2 ^ 32 - 1) ∷ field_test words 6 1 users ∷ field_test words 7 0 255 ∷ []
 
 -- then the special registers sr, esr, mode and emode
 abbrev pub special_tests : List ℕ → List Test
-special_tests words = field words 42 0 1 ∷ field words 43 0 1 ∷ field words 49 1 1 ∷ field words 50 0 1 ∷ []
+special_tests words = field_test words 42 0 1 ∷ field_test words 43 0 1 ∷ field_test words 49 1 1 ∷ field_test words 50 0 1 ∷ []
 
 -- then the disk's next command, the words of input taken, and the length of the log
 abbrev pub count_tests : (inputs : ℕ) → List ℕ → List Test
-count_tests inputs words = commands_test words ∷ field words 54 0 inputs ∷ field words 55 0 LOG_ROOM ∷ []
+count_tests inputs words = commands_test words ∷ field_test words 54 0 inputs ∷ field_test words 55 0 LOG_ROOM ∷ []
 
 -- the words that a saved machine has in all
 abbrev pub whole : (frames : ℕ) → List ℕ → ℕ
-whole frames words = memory_place words + 1024 * frames
+whole frames words = memory_position words + 1024 * frames
 
 -- the file ends with the last word, where it has so many bytes
 abbrev pub end_test : (frames bytes : ℕ) → List ℕ → Test
@@ -56,19 +57,19 @@ end_test frames bytes words =
     record { takes = whole frames words; wrong = nat_lt (4 * whole frames words) bytes; fault = Trailing (4 * whole frames words) }
 
 -- a linked word that no run changes is as the image has it
-abbrev pub linked_test : (frames : ℕ) → (linked words : List ℕ) → (place : ℕ) → Test
-linked_test frames linked words place = record {
+abbrev pub linked_test : (frames : ℕ) → (linked words : List ℕ) → (position : ℕ) → Test
+linked_test frames linked words position = record {
   takes = whole frames words;
-  wrong = if is_left_out place then false else if nat_eq (memory_word words place) (slice_index linked place) then false else true;
-  fault = ForgedWord place (memory_word words place) (slice_index linked place);
+  wrong = if is_left_out position then false else if nat_eq (memory_word words position) (slice_index linked position) then false else true;
+  fault = ForgedWord position (memory_word words position) (slice_index linked position);
 }
 
 -- a user's control block tells no more pages than a user may have
 abbrev pub size_test : (frames pages : ℕ) → List ℕ → (user : ℕ) → Test
 size_test frames pages words user = record {
   takes = whole frames words;
-  wrong = nat_lt pages (memory_word words (size_at user));
-  fault = SizeTooLarge user (memory_word words (size_at user));
+  wrong = nat_lt pages (memory_word words (saved_size_at user));
+  fault = SizeTooLarge user (memory_word words (saved_size_at user));
 }
 
 -- the turns done are no more than those that are wanted

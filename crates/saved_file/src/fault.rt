@@ -16,25 +16,44 @@ pub enum SaveFault {
     Magic,
     /// The word that begins at byte `at` is not whole.
     #[error("truncated at byte {at}")]
-    Truncated { at: u64 },
+    Truncated {
+        at: u64,
+    },
     /// The saved machine ends before byte `at`, which is there.
     #[error("byte {at} follows the saved machine")]
-    Trailing { at: u64 },
-    /// The field that begins with word `place` of the file has a value that may not stand there.
-    #[error("word {place} of the saved machine is {value}, which is out of range")]
-    Field { place: u64, value: u64 },
-    /// The word number `place` of the saved memory is `stored`, where the image has `made`, and it is not one that a run may change.
-    #[error("word {place} of the saved memory is {stored}, and the image has {made}")]
-    ForgedWord { place: u64, stored: u32, made: u32 },
+    Trailing {
+        at: u64,
+    },
+    /// The field that begins with word `position` of the file has a value that may not stand there.
+    #[error("word {position} of the saved machine is {value}, which is out of range")]
+    Field {
+        position: u64,
+        value: u64,
+    },
+    /// The word number `position` of the saved memory is `stored`, where the image has `made`, and it is not one that a run may change.
+    #[error("word {position} of the saved memory is {stored}, and the image has {made}")]
+    ForgedWord {
+        position: u64,
+        stored: u32,
+        made: u32,
+    },
     /// The control block of `user` tells more pages than a user may have.
     #[error("user {user} has {pages} pages, which is too many")]
-    SizeTooLarge { user: u32, pages: u32 },
+    SizeTooLarge {
+        user: u32,
+        pages: u32,
+    },
     /// The saved machine has completed more turns than are wanted.
     #[error("{saved} turns are done, and {wanted} are wanted")]
-    TurnsDone { saved: u32, wanted: u32 },
+    TurnsDone {
+        saved: u32,
+        wanted: u32,
+    },
     /// A saved machine with a full log has so many bytes, which is more than a file may have.
     #[error("a saved machine would have {bytes} bytes, which is too many")]
-    SaveTooLarge { bytes: u64 },
+    SaveTooLarge {
+        bytes: u64,
+    },
     /// Want of memory.
     #[error("out of memory")]
     Memory,
@@ -66,16 +85,16 @@ impl SaveFault {
         match self {
             SaveFault::Magic | SaveFault::Memory => {}
             SaveFault::Truncated { at } | SaveFault::Trailing { at } => fields.push(*at),
-            SaveFault::Field { place, value } => {
-                fields.push(*place);
+            SaveFault::Field { position, value } => {
+                fields.push(*position);
                 fields.push(*value);
             }
             SaveFault::ForgedWord {
-                place,
+                position,
                 stored,
                 made,
             } => {
-                fields.push(*place);
+                fields.push(*position);
                 fields.push(u64::from(*stored));
                 fields.push(u64::from(*made));
             }

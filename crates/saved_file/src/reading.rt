@@ -5,8 +5,8 @@ ghost use Rattle.std.specs.List.{flat_map};
 ghost use Rattle.cvm_words.specs.Bytes.{word, words_of_bytes};
 ghost use Rattle.cvm_words.specs.Reading.{GivesUnless};
 ghost use Rattle.mips_machine.specs.Saved.{from_halves};
-ghost use Rattle.saved_file.specs.Resumable.{CanBeResumed, wanted, is_left_out as left_out, memory_word, memory_place, size_at};
-ghost use Rattle.saved_file.specs.Tests.{tried, all_tried, tests, head_tests, tests_behind, first_tests, special_tests, count_tests, mark_test, field as field_test, commands_test, end_test, linked_test, size_test, turns_test, each, whole};
+ghost use Rattle.saved_file.specs.Resumable.{CanBeResumed, wanted, is_left_out as left_out, memory_word, memory_position, saved_size_at};
+ghost use Rattle.saved_file.specs.Tests.{tried, all_tried, tests, head_tests, tests_behind, first_tests, special_tests, count_tests, mark_test, field_test, commands_test, end_test, linked_test, size_test, turns_test, each, whole};
 ghost use Rattle.saved_file.specs.declared.fault.SaveFault.TheVariants.{Memory};
 ghost use Rattle.saved_file.specs.Answer.{answer, AnswersAreSo, NothingElseIsSo, AnswersAreResumable, ResumablesAreAnswered, SavedIsReadBack};
 
@@ -128,22 +128,22 @@ fn behind(
     turns_are_left(words, sizes.frames, turns)
 }
 
-// Looks at the field at a place, of one word.
+// Looks at the field at a position, of one word.
 #[tactic(auto, unfolding(crate::specs::Tests::tried))]
-fn field(words: &[u32], place: usize, least: u32, most: u32) -> Result<(), SaveFault>
-    requires { place ≤ 1000 }
-    ensures is { result ≡ tried (length words.now) (field_test words.now place least most) }
-    ensures whole { IfOk result (λ done. place < length words.now) }
+fn field(words: &[u32], position: usize, least: u32, most: u32) -> Result<(), SaveFault>
+    requires { position ≤ 1000 }
+    ensures is { result ≡ tried (length words.now) (field_test words.now position least most) }
+    ensures whole { IfOk result (λ done. position < length words.now) }
 {
-    if words.len() < place + 1 {
+    if words.len() < position + 1 {
         return Err(SaveFault::Truncated {
             at: 4 * words.len() as u64,
         });
     }
-    let value = words[place];
+    let value = words[position];
     if value < least || most < value {
         return Err(SaveFault::Field {
-            place: place as u64,
+            position: position as u64,
             value: u64::from(value),
         });
     }
@@ -188,12 +188,12 @@ fn specials(words: &[u32]) -> Result<(), SaveFault>
     field(words, 50, 0, 1)
 }
 
-// A number from its two words, of which the low one has this place.
-fn number(words: &[u32], place: usize) -> u64
-    requires { place + 1 < length words.now }
-    ensures { result ≡ from_halves (slice_index words.now place) (slice_index words.now (place + 1)) }
+// A number from its two words, of which the low one has this position.
+fn number(words: &[u32], position: usize) -> u64
+    requires { position + 1 < length words.now }
+    ensures { result ≡ from_halves (slice_index words.now position) (slice_index words.now (position + 1)) }
 {
-    u64::from(words[place]) + (u64::from(words[place + 1]) << 32)
+    u64::from(words[position]) + (u64::from(words[position + 1]) << 32)
 }
 
 // Looks at the number of the disk's next command.
@@ -208,7 +208,10 @@ fn commands(words: &[u32]) -> Result<(), SaveFault>
     }
     let value = number(words, 52);
     if number(words, 3) < value {
-        return Err(SaveFault::Field { place: 52, value });
+        return Err(SaveFault::Field {
+            position: 52,
+            value,
+        });
     }
     Ok(())
 }
@@ -244,28 +247,28 @@ fn end(words: &[u32], frames: u32, bytes: usize) -> Result<(), SaveFault>
 }
 
 // Whether a linked word is one that a run may change.
-fn is_left_out(place: usize) -> bool
-    ensures { result ≡ left_out place }
+fn is_left_out(position: usize) -> bool
+    ensures { result ≡ left_out position }
 {
-    (1023 < place && place < 2048) || (12287 < place && place < 16384)
+    (1023 < position && position < 2048) || (12287 < position && position < 16384)
 }
 
 // Looks at one linked word.
 #[tactic(auto, unfolding(crate::specs::Tests::tried))]
-fn link(words: &[u32], frames: u32, linked: &[u32], place: usize) -> Result<(), SaveFault>
+fn link(words: &[u32], frames: u32, linked: &[u32], position: usize) -> Result<(), SaveFault>
     requires few { length linked.now ≤ 1024 * frames }
-    requires place { place < length linked.now }
+    requires position { position < length linked.now }
     requires whole { whole frames words.now ≤ length words.now }
-    ensures { result ≡ tried (length words.now) (linked_test frames linked.now words.now place) }
+    ensures { result ≡ tried (length words.now) (linked_test frames linked.now words.now position) }
 {
-    if is_left_out(place) {
+    if is_left_out(position) {
         return Ok(());
     }
-    let stored = words[1080 + words[55] as usize + place];
-    let made = linked[place];
+    let stored = words[1080 + words[55] as usize + position];
+    let made = linked[position];
     if stored != made {
         return Err(SaveFault::ForgedWord {
-            place: place as u64,
+            position: position as u64,
             stored,
             made,
         });
@@ -279,8 +282,8 @@ fn links(words: &[u32], frames: u32, linked: &[u32]) -> Result<(), SaveFault>
     requires whole { whole frames words.now ≤ length words.now }
     ensures { result ≡ all_tried (length words.now) (each (linked_test frames linked.now words.now) 0 (length linked.now)) }
 {
-    for place in 0..linked.len() {
-        link(words, frames, linked, place)?;
+    for position in 0..linked.len() {
+        link(words, frames, linked, position)?;
     }
     Ok(())
 }

@@ -1,5 +1,5 @@
-pub mod Converse
-pub mod Reading
-pub mod Sought
+pub mod ReadIsSpelling
+pub mod OneLineMore
+pub mod RowsSought
 pub mod Spelled
 pub mod Words

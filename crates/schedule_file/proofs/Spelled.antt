@@ -9,12 +9,12 @@ use Rattle.std.proofs.lemmas.Fmt.{digits_decimal}
 use Rattle.std.proofs.lemmas.List.Elements.{All-nil, All-cons}
 use Rattle.std.proofs.lemmas.List.Splits.{slice_split_at, slice_split_none}
 use Rattle.std.proofs.lemmas.Str.Parse.{IsNumeralModel, numerals_by_value}
-use Rattle.cvm_text.specs.Number.{number_at}
+use Rattle.cvm_text.specs.Number.{spelled_number_at}
 use Rattle.schedule_file.specs.declared.row.Row.{Row}
 use Rattle.schedule_file.specs.declared.row.Row.TheVariants.{Line, Busy, Input}
 use Rattle.cvm_text.specs.Lines.{number_spelled}
 use Rattle.schedule_file.specs.Text.{row_of_words, row_of_pair, row_in_words, row_of}
-use Rattle.schedule_file.specs.Spelling.{spelling, NumbersFit}
+use Rattle.schedule_file.specs.Spelling.{spelling, RowFits}
 use Rattle.schedule_file.proofs.Words.{words}
 
 -- what `whole_numbers_are_spelled` says
@@ -61,7 +61,7 @@ module _ (number : WholeNumbers) where
   unfolding row_of_pair
   pair n small = ap (λ found. option_and_then (λ w. cond (bytes_eq (codes "input") (codes "input")) (Some (Input w)) None) found) (number n small)
 
-  pub read_back : (row : Row) → NumbersFit row → row_of (spelling row) ≡ Some row
+  pub read_back : (row : Row) → RowFits row → row_of (spelling row) ≡ Some row
   unfolding row_of
   read_back (Line a b) fits = ap row_in_words (three (codes "line") (decimal a) (decimal b) (search rules) (digits_of a fits.0) (digits_of b fits.1)) ∙ row (codes "line") a b fits.0 fits.1
   read_back (Input n) fits = ap row_in_words (two (codes "input") (decimal n) (search rules) (digits_of n fits)) ∙ pair n fits

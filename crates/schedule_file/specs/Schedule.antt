@@ -30,10 +30,10 @@ is_too_many rows (Input word) = nat_le 4096 (length rows.inputs)
 is_too_many rows _ = false
 
 -- the number of a row that has a range, and its greatest value
-abbrev pub value_of : Row → ℕ
-value_of (Line step line) = line
-value_of (Busy command steps) = steps
-value_of (Input word) = word
+abbrev pub row_value : Row → ℕ
+row_value (Line step line) = line
+row_value (Busy command steps) = steps
+row_value (Input word) = word
 
 abbrev pub limit_of : Row → ℕ
 limit_of (Line step line) = 7
@@ -43,7 +43,7 @@ limit_of (Input word) = 4294967295
 -- the fault of a row in the line with a number, after rows
 abbrev pub fault_of_row : Rows → ℕ → Row → Option ScheduleFault
 fault_of_row rows number row =
-    if nat_lt (limit_of row) (value_of row) then Some (Range number (value_of row)) else
+    if nat_lt (limit_of row) (row_value row) then Some (Range number (row_value row)) else
     (if is_late rows row then Some (Order number) else
     (if is_too_many rows row then Some (TooManyInputs number) else None))
 
@@ -60,9 +60,9 @@ abbrev pub rows_of : List (List ℕ) → Rows
 rows_of lines = fold with_line no_rows lines
 
 -- the fault of the first faulty line, after the lines before
-abbrev pub first_fault : List (List ℕ) → List (List ℕ) → Option ScheduleFault
-first_fault before [] = None
-first_fault before (line ∷ lines) = option_or (fault_of_line (rows_of before) (length before + 1) line) (first_fault (before ++ line ∷ []) lines)
+abbrev pub first_row_fault : List (List ℕ) → List (List ℕ) → Option ScheduleFault
+first_row_fault before [] = None
+first_row_fault before (line ∷ lines) = option_or (fault_of_line (rows_of before) (length before + 1) line) (first_row_fault (before ++ line ∷ []) lines)
 
 -- a fault, or else the rows
 abbrev pub unless : Option ScheduleFault → Rows → Result Rows ScheduleFault
@@ -71,7 +71,7 @@ unless (Some fault) rows = Err fault
 
 -- the schedule that a text is, or the fault of its first faulty line
 unfoldable pub schedule_of : List ℕ → Result Rows ScheduleFault
-schedule_of text = unless (first_fault [] (lines_of text)) (rows_of (lines_of text))
+schedule_of text = unless (first_row_fault [] (lines_of text)) (rows_of (lines_of text))
 
 -- an error is want of memory, or this fault
 abbrev pub IsFault : ScheduleFault → Option ScheduleFault → Type 0

@@ -10,12 +10,12 @@ spelling (Busy command steps) = codes "busy" ++ 32 ∷ (decimal command ++ 32 �
 spelling (Input word) = codes "input" ++ 32 ∷ decimal word
 
 -- its numbers are below 2 ^ 64
-abbrev pub NumbersFit : Row → Type 0
-NumbersFit (Line step line) = (step < 2 ^ 64) × (line < 2 ^ 64)
-NumbersFit (Busy command steps) = (command < 2 ^ 64) × (steps < 2 ^ 64)
-NumbersFit (Input word) = word < 2 ^ 64
+abbrev pub RowFits : Row → Type 0
+RowFits (Line step line) = (step < 2 ^ 64) × (line < 2 ^ 64)
+RowFits (Busy command steps) = (command < 2 ^ 64) × (steps < 2 ^ 64)
+RowFits (Input word) = word < 2 ^ 64
 
 -- a line is the spelling of a row, whose numbers are below 2 ^ 64
 pub record IsSpelled (line : List ℕ) (row : Row) : Type 0 where
-  pub numbers : NumbersFit row
+  pub numbers : RowFits row
   pub text : line ≡ spelling row

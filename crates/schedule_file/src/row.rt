@@ -2,7 +2,7 @@
 
 ghost use Rattle.std.specs.Prelude.{◌≡◌, ℕ, List, Some};
 ghost use Rattle.schedule_file.specs.Text.{row_of, row_of_words as row_in_words, row_of_pair as row_in_pair};
-ghost use Rattle.schedule_file.specs.Spelling.{spelling, NumbersFit, IsSpelled};
+ghost use Rattle.schedule_file.specs.Spelling.{spelling, RowFits, IsSpelled};
 ghost use Rattle.schedule_file.specs.declared.row.Row.{Row};
 
 use crate::lines::Lines;
@@ -84,7 +84,7 @@ pub fn row_in(line: &[u8]) -> Option<Row>
 
 /// A law: each row whose numbers are below 2^64 is read from its spelling.
 pub fn spelled_rows_are_read()
-    ensures { (row : Row) → NumbersFit row → row_of (spelling row) ≡ Some row }
+    ensures { (row : Row) → RowFits row → row_of (spelling row) ≡ Some row }
 {
     whole_numbers_are_spelled();
 }

@@ -1,7 +1,7 @@
 // A command over an outside in memory where no call fails.
 ghost use Rattle.std.specs.Prelude.{◌≡◌, ◌≢◌, length, IfOk, []};
-ghost use Rattle.cvm_outside.specs.Shelves.{inside, taken_of};
-ghost use Rattle.run_scripts.specs.Command.{texts};
+ghost use Rattle.cvm_outside.specs.Shelves.{shelf_inside, taken_of};
+ghost use Rattle.run_scripts.specs.Command.{word_texts};
 ghost use Rattle.shell_cases.specs.Sure.{IsTooLong, IsTooSmall};
 
 use cvm_outside::{MemSectors, MemShelf, MemSink, Shelf, SureSectors, SureShelf, SureSink};
@@ -19,8 +19,8 @@ pub fn run_surely(
     disk: &mut SureSectors,
 ) -> Status
     ensures sink { result ≢ Status.Sink }
-    ensures shelf { result ≡ Status.Shelf → IsTooLong (texts words.now.items) (taken_of (inside shelf.new)) }
-    ensures disk { result ≡ Status.Disk → IsTooSmall (texts words.now.items) (length disk.old) }
+    ensures shelf { result ≡ Status.Shelf → IsTooLong (word_texts words.now.items) (taken_of (shelf_inside shelf.new)) }
+    ensures disk { result ≡ Status.Disk → IsTooSmall (word_texts words.now.items) (length disk.old) }
 {
     statuses_are_caused();
     run(alloc, words, shelf, sink, disk)

@@ -8,7 +8,7 @@ use Rattle.mips_table.specs.Flat.{Flat}
 use Rattle.c0_tree.specs.Tree.{CUnit}
 use Rattle.cvm_model.specs.Cvm.{System, first_flat}
 use Rattle.run_scripts.specs.declared.exit_status.Status.{Status}
-use Rattle.run_scripts.specs.Boot.{booted, around, first_state, steps_before}
+use Rattle.run_scripts.specs.Boot.{booted, environment_of, start_state, steps_before}
 use Rattle.user_c0.specs.Image.{image_words}
 use Rattle.user_c0.specs.Program.{steps_of}
 use Rattle.kernel_theorems.specs.UserRuns.{CallsAfter}
@@ -46,7 +46,7 @@ any_programs_sum comes law one two n k v w first second fits words status old ne
     (record { calls = c.traps; value_is = c.argument }) (record { calls = d.traps; value_is = d.argument }) fits words status old new headlines session s rows before h some view system in (
       text,
       printed,
-      shown (around rows old) (booted s rows) (first_state session s rows before) (steps_before session.start (booted s rows)) (length rows.lines) session.turns session.steps
+      shown (environment_of rows old) (booted s rows) (start_state session s rows before) (steps_before session.start (booted s rows)) (length rows.lines) session.turns session.steps
           one two n k v w c.steps d.steps c.few d.few status text shows,
     )
 

@@ -20,7 +20,7 @@ use Rattle.kernel_theorems.proofs.Histories.{one_more}
 use Rattle.kernel_theorems.proofs.Tests.{small_sum}
 use Rattle.kernel_theorems.proofs.OneKernel.{DoesWithin, keeps_within}
 use Rattle.summing.specs.Tree.{kernel_tree}
-use Rattle.summing.specs.Property.{RunsSumming, data_of, Phase, Nobody, FirstOnly, SecondOnly, Everybody, first_called, second_called, calls_of, total_of, done_of, status_of_phase, IsTurn, machine_of, IsSum, Sums, SumsAreRight}
+use Rattle.summing.specs.Property.{RunsSumming, data_of, Phase, Nobody, FirstOnly, SecondOnly, Everybody, first_called, second_called, phase_calls, total_of, done_of, status_of_phase, IsTurn, machine_of, IsSum, Sums, SumsAreRight}
 
 module _ (y : System) (m n v w : ℕ) (r : RunsSumming y m n v w) where
   abbrev f1 : Flat
@@ -45,8 +45,8 @@ module _ (y : System) (m n v w : ℕ) (r : RunsSumming y m n v w) where
   two_users = ap length r.users_are
 
   -- behind a dispatch: from the phase before it
-  made : (k : ℕ) (past : List Dispatch) (d : Dispatch) (p q : Phase) (a b : ℕ) (c : Core) → a ≤ m → b ≤ n → k ≡ 1 + a + b + calls_of p + lines_taken past → length past ≡ 1 + calls_of p + lines_taken past
-      → calls_of q + (if d.cause == 1 then 1 else 0) ≡ suc (calls_of p) → c.users ≡ users_at q a b → c.c0 ≡ data_of (pos (total_of v w q)) (done_of q) → IsTurn q c.current
+  made : (k : ℕ) (past : List Dispatch) (d : Dispatch) (p q : Phase) (a b : ℕ) (c : Core) → a ≤ m → b ≤ n → k ≡ 1 + a + b + phase_calls p + lines_taken past → length past ≡ 1 + phase_calls p + lines_taken past
+      → phase_calls q + (if d.cause == 1 then 1 else 0) ≡ suc (phase_calls p) → c.users ≡ users_at q a b → c.c0 ≡ data_of (pos (total_of v w q)) (done_of q) → IsTurn q c.current
       → status_of d.next ≡ status_of_phase q → c.console ≡ (first_core y).console → I (suc k) (past ++ d ∷ []) c
   made k past d p q a b c few_one few_two turns long calls users data_is turn status console =
       let l = lines_join past d in
@@ -91,7 +91,7 @@ module _ (y : System) (m n v w : ℕ) (r : RunsSumming y m n v w) where
   )
 
   -- LINES
-  lined : (k mask : ℕ) (past : List Dispatch) (at : Core) (p : Phase) (a b : ℕ) → a ≤ m → b ≤ n → k ≡ 1 + a + b + calls_of p + lines_taken past → length past ≡ 1 + calls_of p + lines_taken past
+  lined : (k mask : ℕ) (past : List Dispatch) (at : Core) (p : Phase) (a b : ℕ) → a ≤ m → b ≤ n → k ≡ 1 + a + b + phase_calls p + lines_taken past → length past ≡ 1 + phase_calls p + lines_taken past
       → at.users ≡ users_at p a b → IsTurn p at.current → status_of_phase p ≡ Running → at.console ≡ (first_core y).console → Does k 1 mask past at (data_of (pos (total_of v w p)) (done_of p))
   lined k mask past at Nobody a b few_one few_two turns long users (inl current) on console =
       let first : int_eq (pos at.current) (pos 1) ≡ true = rw current refl in
@@ -130,7 +130,7 @@ module _ (y : System) (m n v w : ℕ) (r : RunsSumming y m n v w) where
   abbrev at_call : (total : ℕ) → Bool → Phase → (a b : ℕ) → ℕ → Core
   at_call total done p a b u = core_of_parts (data_of (pos total) done) (users_at p a b) o u
 
-  by_first : (k edata : ℕ) (past : List Dispatch) (a b : ℕ) → a ≤ m → b ≤ n → k ≡ 1 + a + b + calls_of Nobody + lines_taken past → length past ≡ 1 + calls_of Nobody + lines_taken past
+  by_first : (k edata : ℕ) (past : List Dispatch) (a b : ℕ) → a ≤ m → b ≤ n → k ≡ 1 + a + b + phase_calls Nobody + lines_taken past → length past ≡ 1 + phase_calls Nobody + lines_taken past
       → Does k 6 edata past (at_call (total_of v w Nobody) (done_of Nobody) FirstOnly a b 1) (data_of (pos (total_of v w Nobody)) (done_of Nobody))
   by_first k edata past a b few_one few_two turns long =
       let sum = small_sum 0 v v _ r.first_calls.value_is (omega arith) (let s = r.small in omega (arith, s)) in
@@ -140,7 +140,7 @@ module _ (y : System) (m n v w : ℕ) (r : RunsSumming y m n v w) where
             (made k past _ Nobody FirstOnly a b _ few_one few_two turns long refl refl (ap (λ z. data_of z true) sum) refl refl refl),
       )
 
-  by_second : (k edata : ℕ) (past : List Dispatch) (a b : ℕ) → a ≤ m → b ≤ n → k ≡ 1 + a + b + calls_of Nobody + lines_taken past → length past ≡ 1 + calls_of Nobody + lines_taken past
+  by_second : (k edata : ℕ) (past : List Dispatch) (a b : ℕ) → a ≤ m → b ≤ n → k ≡ 1 + a + b + phase_calls Nobody + lines_taken past → length past ≡ 1 + phase_calls Nobody + lines_taken past
       → Does k 6 edata past (at_call (total_of v w Nobody) (done_of Nobody) SecondOnly a b 2) (data_of (pos (total_of v w Nobody)) (done_of Nobody))
   by_second k edata past a b few_one few_two turns long =
       let sum = small_sum 0 w w _ r.second_calls.value_is (omega arith) (let s = r.small in omega (arith, s)) in
@@ -150,7 +150,7 @@ module _ (y : System) (m n v w : ℕ) (r : RunsSumming y m n v w) where
             (made k past _ Nobody SecondOnly a b _ few_one few_two turns long refl refl (ap (λ z. data_of z true) sum) refl refl refl),
       )
 
-  then_second : (k edata : ℕ) (past : List Dispatch) (a b : ℕ) → a ≤ m → b ≤ n → k ≡ 1 + a + b + calls_of FirstOnly + lines_taken past → length past ≡ 1 + calls_of FirstOnly + lines_taken past
+  then_second : (k edata : ℕ) (past : List Dispatch) (a b : ℕ) → a ≤ m → b ≤ n → k ≡ 1 + a + b + phase_calls FirstOnly + lines_taken past → length past ≡ 1 + phase_calls FirstOnly + lines_taken past
       → Does k 6 edata past (at_call (total_of v w FirstOnly) (done_of FirstOnly) Everybody a b 2) (data_of (pos (total_of v w FirstOnly)) (done_of FirstOnly))
   then_second k edata past a b few_one few_two turns long =
       let sum = small_sum v w (v + w) _ r.second_calls.value_is refl r.small in
@@ -160,7 +160,7 @@ module _ (y : System) (m n v w : ℕ) (r : RunsSumming y m n v w) where
             (made k past _ FirstOnly Everybody a b _ few_one few_two turns long refl refl (ap (λ z. data_of z true) sum) tt refl refl),
       )
 
-  then_first : (k edata : ℕ) (past : List Dispatch) (a b : ℕ) → a ≤ m → b ≤ n → k ≡ 1 + a + b + calls_of SecondOnly + lines_taken past → length past ≡ 1 + calls_of SecondOnly + lines_taken past
+  then_first : (k edata : ℕ) (past : List Dispatch) (a b : ℕ) → a ≤ m → b ≤ n → k ≡ 1 + a + b + phase_calls SecondOnly + lines_taken past → length past ≡ 1 + phase_calls SecondOnly + lines_taken past
       → Does k 6 edata past (at_call (total_of v w SecondOnly) (done_of SecondOnly) Everybody a b 1) (data_of (pos (total_of v w SecondOnly)) (done_of SecondOnly))
   then_first k edata past a b few_one few_two turns long =
       let sum = small_sum w v (v + w) _ r.first_calls.value_is (omega arith) r.small in
@@ -178,7 +178,7 @@ module _ (y : System) (m n v w : ℕ) (r : RunsSumming y m n v w) where
   trapped : (k : ℕ) (cause : Cause) (edata : ℕ) (past : List Dispatch) (before at : Core) → IsTrapOf before cause edata at → status_after past ≡ Running → UsePages y 100 0 past → (h : I (suc k) past before) → KeepsAll y 100 J (suc k) (cause_number cause) edata past at
   trapped k cause edata past before at came on touch h = by h.phase h.turn_is h.users_are h.turns_are h.length_is h.data_is h.status_is
     where
-      by : (p : Phase) → IsTurn p before.current → before.users ≡ users_at p h.one h.two → suc k ≡ 1 + h.one + h.two + calls_of p + lines_taken past → length past ≡ 1 + calls_of p + lines_taken past
+      by : (p : Phase) → IsTurn p before.current → before.users ≡ users_at p h.one h.two → suc k ≡ 1 + h.one + h.two + phase_calls p + lines_taken past → length past ≡ 1 + phase_calls p + lines_taken past
           → before.c0 ≡ data_of (pos (total_of v w p)) (done_of p) → status_after past ≡ status_of_phase p → KeepsAll y 100 J (suc k) (cause_number cause) edata past at
       by Nobody (inl one) users turns long data_is status =
           arrive (known_trap before at (users_at Nobody h.one h.two) 1 f1 m causes.Syscall r.first_calls.calls _ h.one cause edata (data_of (pos (total_of v w Nobody)) (done_of Nobody)) o refl h.few_one users one refl data_is h.console_is came) touch
@@ -198,8 +198,8 @@ module _ (y : System) (m n v w : ℕ) (r : RunsSumming y m n v w) where
   stepped : (k : ℕ) (past : List Dispatch) (c : Core) (f : Flat) → vstep (user_of c.users c.current) ≡ Goes f → status_after past ≡ Running → (h : I (suc k) past c) → I (suc (suc k)) past (with_machine c f)
   stepped k past c f e on h = by h.phase h.turn_is h.users_are h.turns_are h.length_is h.data_is h.status_is
     where
-      with_step : (p : Phase) (a b : ℕ) → a ≤ m → b ≤ n → a + b ≡ suc (h.one + h.two) → suc k ≡ 1 + h.one + h.two + calls_of p + lines_taken past → (with_machine c f).users ≡ users_at p a b → IsTurn p c.current
-          → length past ≡ 1 + calls_of p + lines_taken past → c.c0 ≡ data_of (pos (total_of v w p)) (done_of p) → status_after past ≡ status_of_phase p → I (suc (suc k)) past (with_machine c f)
+      with_step : (p : Phase) (a b : ℕ) → a ≤ m → b ≤ n → a + b ≡ suc (h.one + h.two) → suc k ≡ 1 + h.one + h.two + phase_calls p + lines_taken past → (with_machine c f).users ≡ users_at p a b → IsTurn p c.current
+          → length past ≡ 1 + phase_calls p + lines_taken past → c.c0 ≡ data_of (pos (total_of v w p)) (done_of p) → status_after past ≡ status_of_phase p → I (suc (suc k)) past (with_machine c f)
       with_step p a b few_one few_two sum turns users turn long data_is status = record {
         phase = p;
         one = a;
@@ -215,7 +215,7 @@ module _ (y : System) (m n v w : ℕ) (r : RunsSumming y m n v w) where
         console_is = h.console_is;
       }
 
-      by : (p : Phase) → IsTurn p c.current → c.users ≡ users_at p h.one h.two → suc k ≡ 1 + h.one + h.two + calls_of p + lines_taken past → length past ≡ 1 + calls_of p + lines_taken past
+      by : (p : Phase) → IsTurn p c.current → c.users ≡ users_at p h.one h.two → suc k ≡ 1 + h.one + h.two + phase_calls p + lines_taken past → length past ≡ 1 + phase_calls p + lines_taken past
           → c.c0 ≡ data_of (pos (total_of v w p)) (done_of p) → status_after past ≡ status_of_phase p → I (suc (suc k)) past (with_machine c f)
       by Nobody (inl one) users turns long data_is status =
           let s = known_step c (users_at Nobody h.one h.two) 1 f1 m causes.Syscall r.first_calls.calls h.one h.few_one users one refl f e in

@@ -14,8 +14,8 @@ steps_are_few s rows raised pages frames users busy = counted raised _ _ _ _ use
 
 -- with compiled users
 counted_compiled : (raised users pages frames longest : ℕ) → users ≡ 2 → pages ≡ 20 → frames ≡ 48 → longest ≡ 0
-    → 20000 + 64 * (users * pages + frames) + (345 + raised) * (1 + 2 * (200000 + 32 * (users * pages) + 6 * longest)) + (3 + raised) * (1000 + 1000 + (600 * 100 + (200000 + 32 * (users * pages) + 6 * longest) * 0))
-    ≡ 139095177 + 464561 * raised
+    → 20000 + 64 * (users * pages + frames) + (343 + raised) * (1 + 2 * (200000 + 32 * (users * pages) + 6 * longest)) + (3 + raised) * (1000 + 1000 + (600 * 100 + (200000 + 32 * (users * pages) + 6 * longest) * 0))
+    ≡ 138290055 + 464561 * raised
 counted_compiled raised users pages frames longest u p f l = rw (u, p, f, l) (omega arith)
 
 pub compiled_steps_are_few : CompiledStepsAreFew

@@ -17,7 +17,7 @@ use Rattle.run_bounds.specs.Steps.{BoundsAreSmall}
 use Rattle.kernel_linker.specs.Sources.{AcceptedAreOfImages}
 use Rattle.run_scripts.specs.declared.exit_status.Status.{Status}
 use Rattle.run_scripts.specs.declared.exit_status.Status.TheVariants.{Done}
-use Rattle.run_scripts.specs.Boot.{booted, around, first_state, steps_before}
+use Rattle.run_scripts.specs.Boot.{booted, environment_of, start_state, steps_before}
 use Rattle.kernel_theorems.specs.Text.{Means}
 use Rattle.kernel_boots.specs.Systems.{SystemEndsWithin, HasHalted, SystemShown}
 use Rattle.kernel_boots.proofs.Boots.{asked_read}
@@ -25,7 +25,7 @@ use Rattle.kernel_boots.proofs.Systems.{asks_source, asked_users, stopped, syste
 use Rattle.summing.specs.Tree.{kernel_tree}
 use Rattle.summing.specs.Text.{text as kernel_text}
 use Rattle.kernel_theorems.specs.UserRuns.{after, CallsAfter}
-use Rattle.summing.specs.Property.{RunsSumming, data_of, Phase, Nobody, FirstOnly, SecondOnly, Everybody, status_of_phase, calls_of, first_called, second_called, total_of, done_of, machine_of, IsSum, Sums}
+use Rattle.summing.specs.Property.{RunsSumming, data_of, Phase, Nobody, FirstOnly, SecondOnly, Everybody, status_of_phase, phase_calls, first_called, second_called, total_of, done_of, machine_of, IsSum, Sums}
 use Rattle.summing.specs.Users.{user_one, user_two, UsersCall}
 use Rattle.summing.specs.Boots.{report_of, last_report, SumShown, AnyUsersSum, NamedSumShown, SummingBoots}
 use Rattle.summing.proofs.Property.{invariant}
@@ -37,13 +37,13 @@ runs one two m n v w first second small y means users room =
     record { meaning_is = means; one = one; two = two; users_are = users; first_calls = first; second_calls = second; small = small; room = room }
 
 -- the phase of a state that is running, of one that is safe, and of one that has halted
-few_calls : (p : Phase) → status_of_phase p ≡ Running → calls_of p ≤ 1
+few_calls : (p : Phase) → status_of_phase p ≡ Running → phase_calls p ≤ 1
 few_calls Nobody e = omega arith
 few_calls FirstOnly e = omega arith
 few_calls SecondOnly e = omega arith
 few_calls Everybody e = absurd (cc)
 
-most_calls : (p : Phase) → calls_of p ≤ 2
+most_calls : (p : Phase) → phase_calls p ≤ 2
 most_calls Nobody = omega arith
 most_calls FirstOnly = omega arith
 most_calls SecondOnly = omega arith
@@ -141,7 +141,7 @@ any_users_sum images laws counts small takes rise means one two m n v w first se
     let y = booted s rows in
     let read = asked_read images kernel_text words old.shelf.file session s rows h.asked asks in
     let r : RunsSumming y m n v w = runs one two m n v w first second fits y (means s.unit s.params read.unit) users (let room = read.room.stack in omega (arith, room)) in
-    (text, printed, shown (around rows old) y m n v w r f g (first_state session s rows before) (steps_before session.start y) (length rows.lines) session.turns session.steps status text shows)
+    (text, printed, shown (environment_of rows old) y m n v w r f g (start_state session s rows before) (steps_before session.start y) (length rows.lines) session.turns session.steps status text shows)
 
 -- THE NAMED SYSTEM
 thirty : signed_decimal (pos 30) ≡ codes "30"
@@ -164,4 +164,4 @@ named x y s late raised turns steps status text h = record {
 pub summing_boots : AnyUsersSum → UsersCall → SummingBoots
 summing_boots law calls words status old new headlines session s rows before h some view system =
     let (text, printed, shows) = law user_one user_two 21 41 10 20 calls.one calls.two (omega arith) words status old new headlines session s rows before h some view system in
-    (text, printed, named (around rows old) (booted s rows) (first_state session s rows before) (steps_before session.start (booted s rows)) (length rows.lines) session.turns session.steps status text shows)
+    (text, printed, named (environment_of rows old) (booted s rows) (start_state session s rows before) (steps_before session.start (booted s rows)) (length rows.lines) session.turns session.steps status text shows)

@@ -16,7 +16,7 @@ use Rattle.run_scripts.specs.declared.exit_status.Status.{Status}
 use Rattle.run_scripts.specs.declared.exit_status.Status.TheVariants.{Done, KernelFault, Memory}
 use Rattle.run_scripts.specs.declared.session.Session.{Session}
 use Rattle.cvm_outside.specs.Outside.{Outside}
-use Rattle.run_scripts.specs.Boot.{booted, around, first_state, steps_before, IsHonest}
+use Rattle.run_scripts.specs.Boot.{booted, environment_of, start_state, steps_before, IsHonest}
 use Rattle.run_scripts.specs.CommandEnds.{Headlines}
 use Rattle.kernel_theorems.specs.Lines.{by_lines}
 use Rattle.kernel_boots.specs.Systems.{AsksSystem, SystemShown}
@@ -47,7 +47,7 @@ AnyUsersSum = (one two : List ℕ) (m n v w : ℕ) → CallsAfter (first_flat on
     → (session : Session) (s : ImageSystem) (rows : Rows) (before : List (List ℕ)) → (h : IsHonest words session s rows before old new)
     → status ≢ Memory → session.view ≡ Boot → AsksSystem kernel_text (one ∷ two ∷ []) h.asked
     → (text : List ℕ) × (new.sink.text ≡ append_known old.sink.text text)
-    × SumShown (around rows old) (booted s rows) (first_state session s rows before) (steps_before session.start (booted s rows)) (length rows.lines) session.turns session.steps
+    × SumShown (environment_of rows old) (booted s rows) (start_state session s rows before) (steps_before session.start (booted s rows)) (length rows.lines) session.turns session.steps
     m n v w (first_flat one) (first_flat two) status text
 
 -- the report of the two users of specs/Users: the total is 30, and each user stands behind its call, with its count in register 4
@@ -86,7 +86,7 @@ SummingBoots = (words : List (List ℕ)) (status : Status) (old new : Outside) �
     → (session : Session) (s : ImageSystem) (rows : Rows) (before : List (List ℕ)) → (h : IsHonest words session s rows before old new)
     → status ≢ Memory → session.view ≡ Boot → AsksSystem kernel_text (user_one ∷ user_two ∷ []) h.asked
     → (text : List ℕ) × (new.sink.text ≡ append_known old.sink.text text)
-    × NamedSumShown (around rows old) (booted s rows) (first_state session s rows before) (steps_before session.start (booted s rows)) (length rows.lines) session.turns session.steps status text
+    × NamedSumShown (environment_of rows old) (booted s rows) (start_state session s rows before) (steps_before session.start (booted s rows)) (length rows.lines) session.turns session.steps status text
 
 -- THE STEPS in numbers: with 4 pages for each user, 8 frames and no busy times, so many for L `line` rows, before those of a ROM
 abbrev pub StepsAreFew : Type 0

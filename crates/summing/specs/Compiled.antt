@@ -20,7 +20,7 @@ use Rattle.run_scripts.specs.declared.exit_status.Status.{Status}
 use Rattle.run_scripts.specs.declared.exit_status.Status.TheVariants.{Done, KernelFault, Memory}
 use Rattle.run_scripts.specs.declared.session.Session.{Session}
 use Rattle.cvm_outside.specs.Outside.{Outside}
-use Rattle.run_scripts.specs.Boot.{booted, around, first_state, steps_before, IsHonest}
+use Rattle.run_scripts.specs.Boot.{booted, environment_of, start_state, steps_before, IsHonest}
 use Rattle.run_scripts.specs.CommandEnds.{Headlines}
 use Rattle.kernel_theorems.specs.UserRuns.{after}
 use Rattle.kernel_boots.specs.Boots.{AsksSource}
@@ -57,7 +57,7 @@ AnyProgramsSum = (one two : CUnit) (n k v w : ℕ) → Brings one n v → Brings
     → (session : Session) (s : ImageSystem) (rows : Rows) (before : List (List ℕ)) → (h : IsHonest words session s rows before old new)
     → status ≢ Memory → session.view ≡ Boot → AsksSystem kernel_text (image_words one ∷ image_words two ∷ []) h.asked
     → (text : List ℕ) × (new.sink.text ≡ append_known old.sink.text text)
-    × ProgramSumShown (around rows old) (booted s rows) (first_state session s rows before) (steps_before session.start (booted s rows)) (length rows.lines) session.turns session.steps
+    × ProgramSumShown (environment_of rows old) (booted s rows) (start_state session s rows before) (steps_before session.start (booted s rows)) (length rows.lines) session.turns session.steps
     one two n k v w status text
 
 -- AND WHERE IT IS KNOWN BEHIND HOW MANY STEPS THEY TRAP, a and b, it shows what it shows of users that call behind just these
@@ -68,18 +68,18 @@ AnyCountedProgramsSum = (one two : CUnit) (n k v w a b : ℕ) → Brings one n v
     → (session : Session) (s : ImageSystem) (rows : Rows) (before : List (List ℕ)) → (h : IsHonest words session s rows before old new)
     → status ≢ Memory → session.view ≡ Boot → AsksSystem kernel_text (image_words one ∷ image_words two ∷ []) h.asked
     → (text : List ℕ) × (new.sink.text ≡ append_known old.sink.text text)
-    × SumShown (around rows old) (booted s rows) (first_state session s rows before) (steps_before session.start (booted s rows)) (length rows.lines) session.turns session.steps
+    × SumShown (environment_of rows old) (booted s rows) (start_state session s rows before) (steps_before session.start (booted s rows)) (length rows.lines) session.turns session.steps
     a b v w (first_flat (image_words one)) (first_flat (image_words two)) status text
 
--- THE TWO ADDERS, whose machines at the start are f and g: the status is no kernel's fault; and under a schedule of L `line` rows, with 345 turns and L more,
+-- THE TWO ADDERS, whose machines at the start are f and g: the status is no kernel's fault; and under a schedule of L `line` rows, with 343 turns and L more,
 -- and the steps of the machine for them, it is done, has halted, and its text is at most 3 + L rows and then the report, which says the total of 265 and each
 -- user's machine behind its call
 pub record AddersShown (x : Environment) (y : System) (s : State) (late raised turns steps : ℕ) (f g : Flat) (status : Status) (text : List ℕ) : Type 0 where
-  pub shows : SumShown x y s late raised turns steps 121 221 55 210 f g status text
+  pub shows : SumShown x y s late raised turns steps 120 220 55 210 f g status text
   pub no_fault : status ≢ KernelFault
-  pub halted : 345 + raised ≤ turns → steps_for y (345 + raised) (3 + raised) 100 0 + late ≤ steps
+  pub halted : 343 + raised ≤ turns → steps_for y (343 + raised) (3 + raised) 100 0 + late ≤ steps
       → (status ≡ Done) × (length shows.shown.stands.state.rows ≤ 3 + raised)
-      × (text ≡ rows_text shows.shown.stands.state.rows ++ (codes "halted\nglobal total 265\nglobal done true\n" ++ users_text 1 (after 122 f ∷ after 222 g ∷ [])))
+      × (text ≡ rows_text shows.shown.stands.state.rows ++ (codes "halted\nglobal total 265\nglobal done true\n" ++ users_text 1 (after 121 f ∷ after 221 g ∷ [])))
 
 -- EACH BOOT of an image with the kernel's text whose users are compiled of the two texts, under every schedule; their machines at the start are those of the
 -- images of the two trees, whatever places the texts' own trees have
@@ -88,10 +88,10 @@ CompiledSumsBoot = (words : List (List ℕ)) (status : Status) (old new : Outsid
     → (session : Session) (s : ImageSystem) (rows : Rows) (before : List (List ℕ)) → (h : IsHonest words session s rows before old new)
     → status ≢ Memory → session.view ≡ Boot → AsksSource kernel_text h.asked → (layer : Map → List ℕ → List ℕ) → IsLinkedOf layer text_ten text_twenty s
     → (text : List ℕ) × (new.sink.text ≡ append_known old.sink.text text)
-    × AddersShown (around rows old) (booted s rows) (first_state session s rows before) (steps_before session.start (booted s rows)) (length rows.lines) session.turns session.steps
+    × AddersShown (environment_of rows old) (booted s rows) (start_state session s rows before) (steps_before session.start (booted s rows)) (length rows.lines) session.turns session.steps
     (first_flat (image_words (adder 10))) (first_flat (image_words (adder 20))) status text
 
 -- THE STEPS in numbers: with 20 pages for each user, 48 frames and no busy times, so many for L `line` rows, before those of a ROM
 abbrev pub CompiledStepsAreFew : Type 0
 CompiledStepsAreFew = (s : ImageSystem) (rows : Rows) (raised : ℕ) → s.params.pages ≡ 20 → s.params.frames ≡ 48 → length s.users ≡ 2 → longest rows ≡ 0
-    → steps_for (booted s rows) (345 + raised) (3 + raised) 100 0 ≡ 139095177 + 464561 * raised
+    → steps_for (booted s rows) (343 + raised) (3 + raised) 100 0 ≡ 138290055 + 464561 * raised

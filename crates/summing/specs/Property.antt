@@ -46,11 +46,11 @@ second_called FirstOnly = false
 second_called SecondOnly = true
 second_called Everybody = true
 
-abbrev pub calls_of : Phase → ℕ
-calls_of Nobody = 0
-calls_of FirstOnly = 1
-calls_of SecondOnly = 1
-calls_of Everybody = 2
+abbrev pub phase_calls : Phase → ℕ
+phase_calls Nobody = 0
+phase_calls FirstOnly = 1
+phase_calls SecondOnly = 1
+phase_calls Everybody = 2
 
 abbrev pub total_of : ℕ → ℕ → Phase → ℕ
 total_of v w Nobody = 0
@@ -86,8 +86,8 @@ pub record IsSum (y : System) (m n v w : ℕ) (f g : Flat) (k : ℕ) (past : Lis
   pub two : ℕ
   pub few_one : one ≤ m
   pub few_two : two ≤ n
-  pub turns_are : k ≡ 1 + one + two + calls_of phase + lines_taken past
-  pub length_is : length past ≡ 1 + calls_of phase + lines_taken past
+  pub turns_are : k ≡ 1 + one + two + phase_calls phase + lines_taken past
+  pub length_is : length past ≡ 1 + phase_calls phase + lines_taken past
   pub users_are : c.users ≡ machine_of (first_called phase) m one f ∷ machine_of (second_called phase) n two g ∷ []
   pub data_is : c.c0 ≡ data_of (pos (total_of v w phase)) (done_of phase)
   pub turn_is : IsTurn phase c.current

@@ -17,7 +17,7 @@ use kernel_linker::laws::accepted_systems_are_of_their_images;
 use kernel_theorems::{program_texts_mean_trees, texts_mean_trees};
 use mips_table::runs::turns_are_counted;
 use program_systems::{
-    adders_are_counted, adders_call, counts_tell, first_calls_come, images_ignore_places,
+    adders_are_counted, adders_call, counts_tell, first_calls_come, images_ignore_spans,
     texts_are_adders,
 };
 use run_bounds::{bounds_are_small, lines_taken_are_few, raised_lines_are_few};
@@ -98,7 +98,7 @@ pub fn any_counted_programs_sum()
     any_users_sum();
 }
 
-/// A law: so it is of each boot of an image that was linked of what `compile program` put of the two texts, with a total of 265, and with 345 turns more than
+/// A law: so it is of each boot of an image that was linked of what `compile program` put of the two texts, with a total of 265, and with 343 turns more than
 /// the schedule has `line` rows, which are those that it takes without them.
 pub fn compiled_sums_boot()
     ensures { CompiledSumsBoot }
@@ -108,12 +108,12 @@ pub fn compiled_sums_boot()
     program_texts_mean_trees();
     texts_are_adders();
     adders_call();
-    images_ignore_places();
+    images_ignore_spans();
     adders_are_counted();
     any_counted_programs_sum();
 }
 
-/// A law: with 20 pages for each user, 48 frames and no busy times the steps that `compiled_sums_boot` asks for are 139,095,177, and 464,561 more for each
+/// A law: with 20 pages for each user, 48 frames and no busy times the steps that `compiled_sums_boot` asks for are 138,290,055, and 464,561 more for each
 /// `line` row.
 pub fn compiled_steps_are_few()
     ensures { CompiledStepsAreFew }

@@ -1,3 +1,3 @@
-mod Basics
-mod Move
-mod Swapping
+mod SmallOffsets
+mod WordsMoved
+mod FramesSwapped

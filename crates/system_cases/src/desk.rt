@@ -19,13 +19,13 @@ pub struct Desk {
 
 impl Model for Desk {
     ghost use Rattle.mips_machine.specs.Machine.{Held};
-    ghost use Rattle.system_cases.specs.Desk.{Fits};
+    ghost use Rattle.system_cases.specs.Desk.{DeskFits};
 
     ghost Value = { Held };
 
     ghost view = { λ d. d.machine };
 
-    ghost invariant = { λ d. Fits d.words d.sectors d.machine d.disk.sectors };
+    ghost invariant = { λ d. DeskFits d.words d.sectors d.machine d.disk.sectors };
 }
 
 impl Desk {

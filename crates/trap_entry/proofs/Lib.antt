@@ -1,6 +1,6 @@
-mod Basics
-mod Deciding
-mod Faults
-mod Entering
-mod Answered
-mod Handled
+mod RunsJoined
+mod FaultDecided
+mod FaultHandled
+mod KernelEntered
+mod DispatchAnswered
+mod HandlerWords

@@ -16,7 +16,7 @@ use Rattle.layer_map.specs.declared.places.TheConstants.{BLOCK_SIZE, BLOCK_HI, B
 use Rattle.masm.specs.Frames.{Besides}
 use Rattle.page_model.specs.Paging.{Pages, PagingInvariant}
 use Rattle.page_model.specs.Faults.{Brought}
-use Rattle.page_model.specs.Places.{Places, frames_end, paged_view}
+use Rattle.page_model.specs.TableLayout.{TableLayout, frames_end, paged_view}
 use Rattle.frame_table.specs.View.{Sited, Ported}
 use Rattle.page_fault.specs.Asked.{swap_steps, fault_steps, PageBlock}
 use Rattle.pcb_layer.specs.Code.{saved_at}
@@ -41,7 +41,7 @@ pub record RunComesTo (w : World) (steps n m : ℕ) (i : Inst) (c : Contents) (d
   pub stands : w.code m ≡ Some i
 
 -- a fault of the current user at byte address e may be handled: base is the number of its page 0, the page is below its size, and the machine shows v
-pub record FaultAsked (p : Places) (v : Pages) (base e : ℕ) (c : Contents) (d : Behind) : Type 0 where
+pub record FaultAsked (p : TableLayout) (v : Pages) (base e : ℕ) (c : Contents) (d : Behind) : Type 0 where
   pub table : c.special PTO ≡ 4 * (p.tables + base)
   pub edata : c.special EDATA ≡ e
   pub word : e < 2 ^ 32
@@ -53,7 +53,7 @@ pub record FaultAsked (p : Places) (v : Pages) (base e : ℕ) (c : Contents) (d 
 
 -- it was: page q passes for a store, the machine shows the same, and registers, memory below the page tables but the hand and the save area, memory
 -- behind the last frame, the sectors past the pages, and all else are as before
-pub record FaultDone (p : Places) (v : Pages) (q : ℕ) (c0 : Contents) (d0 : Behind) (c : Contents) (d : Behind) : Type 0 where
+pub record FaultDone (p : TableLayout) (v : Pages) (q : ℕ) (c0 : Contents) (d0 : Behind) (c : Contents) (d : Behind) : Type 0 where
   pub stands : PagingInvariant p.layout v (paged_view p c.memory d.sectors)
   pub brought : Brought p.layout q true (paged_view p c0.memory d0.sectors) (paged_view p c.memory d.sectors)
   pub low : (x : ℕ) → x < p.tables → x ≢ hand_at → IsUnsaved x → c.memory x ≡ c0.memory x
@@ -64,12 +64,12 @@ pub record FaultDone (p : Places) (v : Pages) (q : ℕ) (c0 : Contents) (d0 : Be
   pub besides : Besides c0 d0 c d
 
 -- where the eret of a handled fault stands, in a handler at word n
-abbrev pub fault_eret_at : ℕ → Places → List Inst → ℕ
+abbrev pub fault_eret_at : ℕ → TableLayout → List Inst → ℕ
 fault_eret_at n p page = n + length save_and_classify_code + 1 + length (handle_page_fault_code p page)
 
 -- HANDLED FAULT: from its start the handler comes to the eret, in a swap for each page that names the frame at the hand, one more, and 85 steps
 abbrev pub HandlesFaults : World → Type 0
-HandlesFaults w = (p : Places) (b : ℕ) (page : PageBlock w p b) (v : Pages) (base e n : ℕ) (c : Contents) (d : Behind) → Sited p w → Ported p w b → MaySave w → CodeAt w n (handler_code p page.code) → IsHandled (c.special ECA) e (c.special PTL) → FaultAsked p v base e c d
+HandlesFaults w = (p : TableLayout) (b : ℕ) (page : PageBlock w p b) (v : Pages) (base e n : ℕ) (c : Contents) (d : Behind) → Sited p w → Ported p w b → MaySave w → CodeAt w n (handler_code p page.code) → IsHandled (c.special ECA) e (c.special PTL) → FaultAsked p v base e c d
     → RunComesTo w (swap_steps p b c.memory + 85) n (fault_eret_at n p page.code) Eret c d (FaultDone p v (base + e / 4096) c d) × (swap_steps p b c.memory ≤ fault_steps b)
 
 -- `dispatch` is called for the current user, which is saved
@@ -100,16 +100,16 @@ pub record ResetEntered (c0 : Contents) (d0 : Behind) (c : Contents) (d : Behind
 
 -- ENTER, from a user: all interrupts but handled faults lead to the kernel's first word
 abbrev pub EntersKernel : World → Type 0
-EntersKernel w = (p : Places) (page : List Inst) (u n : ℕ) (c : Contents) (d : Behind) → length page ≤ 1000 → MaySave w → MayKeep w u → IsCurrent w u c → CodeAt w n (handler_code p page) → c.special ECA < 2 ^ 32 → c.special ECA ≢ cause_number Reset
+EntersKernel w = (p : TableLayout) (page : List Inst) (u n : ℕ) (c : Contents) (d : Behind) → length page ≤ 1000 → MaySave w → MayKeep w u → IsCurrent w u c → CodeAt w n (handler_code p page) → c.special ECA < 2 ^ 32 → c.special ECA ≢ cause_number Reset
     → (IsHandled (c.special ECA) (c.special EDATA) (c.special PTL) → ⊥) → d.pending ≡ Idle → (c' : Contents) × (d' : Behind) × UserEntered u c d c' d' × Reaches w 124 (at_with n c d) (at_with layer_words c' d')
 
 -- ENTER, after the reset
 abbrev pub ResetEnters : World → Type 0
-ResetEnters w = (p : Places) (page : List Inst) (n : ℕ) (c : Contents) (d : Behind) → length page ≤ 1000 → w.system ≡ true → HasSaveArea w → MaySave w → CodeAt w n (handler_code p page) → c.special ECA ≡ cause_number Reset → d.pending ≡ Idle
+ResetEnters w = (p : TableLayout) (page : List Inst) (n : ℕ) (c : Contents) (d : Behind) → length page ≤ 1000 → w.system ≡ true → HasSaveArea w → MaySave w → CodeAt w n (handler_code p page) → c.special ECA ≡ cause_number Reset → d.pending ≡ Idle
     → (c' : Contents) × (d' : Behind) × ResetEntered c d c' d' × Reaches w 51 (at_with n c d) (at_with layer_words c' d')
 
 -- user u goes on behind the eret: it is the current one, and the processor is as its control block says
-pub record UserReady (p : Places) (per u : ℕ) (c0 : Contents) (d0 : Behind) (c : Contents) (d : Behind) : Type 0 where
+pub record UserReady (p : TableLayout) (per u : ℕ) (c0 : Contents) (d0 : Behind) (c : Contents) (d : Behind) : Type 0 where
   pub current : c.memory current_at ≡ u
   pub others : (x : ℕ) → x ≢ current_at → c.memory x ≡ c0.memory x
   pub registers : (r : ℕ) → IsRegister r → c.regs r ≡ c0.memory (block_at u + r)
@@ -124,7 +124,7 @@ pub record UserReady (p : Places) (per u : ℕ) (c0 : Contents) (d0 : Behind) (c
   pub behind : d ≡ d0
 
 -- a user may go on: it is one of so many, with up to so many pages each
-pub record MayGo (w : World) (p : Places) (users per u : ℕ) : Type 0 where
+pub record MayGo (w : World) (p : TableLayout) (users per u : ℕ) : Type 0 where
   pub system : w.system ≡ true
   pub some : 1 ≤ u
   pub one : u ≤ users
@@ -147,17 +147,17 @@ pub record PassedOver (c0 : Contents) (d0 : Behind) (c : Contents) (d : Behind) 
 
 -- LEAVE, to user u: in 67 steps to the eret
 abbrev pub LeavesToUser : World → Type 0
-LeavesToUser w = (p : Places) (users per u n : ℕ) (c : Contents) (d : Behind) → MayGo w p users per u → CodeAt w n (act_on_answer_code p users per) → c.regs ANSWER ≡ u → d.pending ≡ Idle
+LeavesToUser w = (p : TableLayout) (users per u n : ℕ) (c : Contents) (d : Behind) → MayGo w p users per u → CodeAt w n (act_on_answer_code p users per) → c.regs ANSWER ≡ u → d.pending ≡ Idle
     → RunComesTo w 67 n (n + 6 + length (return_to_user_code p per)) Eret c d (UserReady p per u c d)
 
 -- LEAVE, with the answer 0: in 2 steps to the store of a 0 to the power port
 abbrev pub LeavesForGood : World → Type 0
-LeavesForGood w = (p : Places) (users per n : ℕ) (c : Contents) (d : Behind) → CodeAt w n (act_on_answer_code p users per) → c.regs ANSWER ≡ 0 → d.pending ≡ Idle
+LeavesForGood w = (p : TableLayout) (users per n : ℕ) (c : Contents) (d : Behind) → CodeAt w n (act_on_answer_code p users per) → c.regs ANSWER ≡ 0 → d.pending ≡ Idle
     → RunComesTo w 2 n (n + 2) (Sw ZERO ZERO POWER) c d (PassedOver c d)
 
 -- LEAVE, with no user's number: in 6 steps to the store of BAD_USER
 abbrev pub LeavesBadly : World → Type 0
-LeavesBadly w = (p : Places) (users per n : ℕ) (c : Contents) (d : Behind) → users ≤ 64 → CodeAt w n (act_on_answer_code p users per) → users < c.regs ANSWER → c.regs ANSWER < 2 ^ 32 → d.pending ≡ Idle
+LeavesBadly w = (p : TableLayout) (users per n : ℕ) (c : Contents) (d : Behind) → users ≤ 64 → CodeAt w n (act_on_answer_code p users per) → users < c.regs ANSWER → c.regs ANSWER < 2 ^ 32 → d.pending ≡ Idle
     → RunComesTo w 6 n (n + 8 + length (return_to_user_code p per)) (Sw T0 ZERO POWER) c d (λ c' d'. PassedOver c d c' d' × (c'.regs T0 ≡ BAD_USER))
 
 -- FAULT EXIT: in one step to the store of the fault's power word

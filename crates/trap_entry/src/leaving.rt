@@ -2,7 +2,7 @@
 ghost use Rattle.std.specs.Prelude.{◌≡◌, ◌<◌, ◌≤◌, [], ◌∷◌, ◌++◌, map as each};
 ghost use Rattle.mips_table.specs.declared.inst.Inst.TheVariants.{Eret};
 ghost use Rattle.mips_table.specs.Encoding.{encoding};
-ghost use Rattle.page_model.specs.Places.{places_of};
+ghost use Rattle.page_model.specs.TableLayout.{table_layout};
 ghost use Rattle.trap_entry.specs.Code.{switch_page_table_code, return_to_user_code, act_on_answer_code, exit_with_code};
 
 use layer_map::{ANSWER, BLOCK_SIZE, CURRENT, Map};
@@ -17,7 +17,7 @@ pub const BAD_USER: u32 = 5;
 
 // The user in ANSWER becomes the current one, and its page table the one that is used.
 fn switch_page_table(map: &Map) -> Code
-    ensures { result ≡ each encoding (switch_page_table_code (places_of map.now) map.now.params.pages) }
+    ensures { result ≡ each encoding (switch_page_table_code (table_layout map.now) map.now.params.pages) }
 {
     block! {
         sw ANSWER, CURRENT(ZERO);
@@ -43,7 +43,7 @@ const SET_USER_LIMITS: [Inst; 5] = code! {
 
 // The user in ANSWER goes on, with the eret.
 fn return_to_user(map: &Map) -> Code
-    ensures { result ≡ each encoding (return_to_user_code (places_of map.now) map.now.params.pages ++ Eret ∷ []) }
+    ensures { result ≡ each encoding (return_to_user_code (table_layout map.now) map.now.params.pages ++ Eret ∷ []) }
 {
     block! {
         then switch_page_table(map);
@@ -67,7 +67,7 @@ pub fn exit_with(power: u32) -> Code
 
 /// Code that is run at an answer of `dispatch`, in ANSWER: a user goes on, or a 0 or BAD_USER, which is 5, goes to the power port.
 pub fn act_on_answer(map: &Map) -> Code
-    ensures { result ≡ each encoding (act_on_answer_code (places_of map.now) map.now.users map.now.params.pages) }
+    ensures { result ≡ each encoding (act_on_answer_code (table_layout map.now) map.now.users map.now.params.pages) }
 {
     block! {
         sltiu T0, ANSWER, 1;            // whether the answer is 0

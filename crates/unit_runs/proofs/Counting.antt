@@ -12,12 +12,12 @@ use Rattle.layer_map.specs.Map.{layer_words}
 use Rattle.layer_contract.specs.declared.entry.Entry.TheVariants.{Primitive}
 use Rattle.layer_contract.specs.declared.registers.TheConstants.{RETURN}
 use Rattle.layer_contract.specs.Layer.{layer_entry, Inside, IsEntry, Way}
-use Rattle.layer_contract.specs.Calls.{entered, goes_on, under_way, ends_here, ended_before, busy_count, entered_before}
+use Rattle.layer_contract.specs.Calls.{entered, return_address, under_way, ends_here, ended_before, busy_count, entered_before}
 use Rattle.cvm_model.specs.Stands.{Site}
 use Rattle.unit_runs.specs.Placed.{program}
 use Rattle.unit_runs.specs.Host.{CountsCalls}
 use Rattle.unit_runs.proofs.Instructions.{code_is}
-use Rattle.unit_runs.proofs.Reached.{RunsJoin, Reached}
+use Rattle.unit_runs.proofs.HowFar.{RunsJoin, Reached}
 
 -- the pc is at no primitive's entry
 abbrev pub IsElsewhere : State → Type 0
@@ -71,7 +71,7 @@ module _ (x : Environment) (s : State) where
       let same : ended_before x s (suc k) ≡ ended_before x s k + 0 = ap (λ o. ended_before x s k + ends_here (run x s (suc k)) o) none in
       let busy : busy_count (under_way x s k) ≡ 0 = ap busy_count none in
       let n = c.count in
-      record { under = ap (goes_on (run x s (suc k))) none; count = omega (arith, same, n); early = upto k m c.early (omega (arith, busy, n)) }
+      record { under = ap (return_address (run x s (suc k))) none; count = omega (arith, same, n); early = upto k m c.early (omega (arith, busy, n)) }
 
   -- steps from states that are at no entry
   pub counts_along : (k m n : ℕ) → CountsCalls x s k m → ((j : ℕ) → j < n → IsElsewhere (run x s (k + j))) → CountsCalls x s (k + n) m
@@ -89,7 +89,7 @@ module _ (x : Environment) (s : State) where
       let same : ended_before x s (suc k) ≡ ended_before x s k + 0 = ap (λ o. ended_before x s k + ends_here (run x s (suc k)) o) w.under ∙ ap (λ a. ended_before x s k + a) (cond-false _ 1 0 other) in
       let n = w.count in
       record {
-        under = ap (goes_on (run x s (suc k))) w.under ∙ cond-false _ None (Some back) other;
+        under = ap (return_address (run x s (suc k))) w.under ∙ cond-false _ None (Some back) other;
         count = omega (arith, same, n);
         early = upto k (suc m) w.early (waiting back k m w);
       }
@@ -107,7 +107,7 @@ module _ (x : Environment) (s : State) where
       let more : ended_before x s (suc k) ≡ ended_before x s k + 1 = ap (λ o. ended_before x s k + ends_here (run x s (suc k)) o) w.under ∙ ap (λ a. ended_before x s k + a) (cond-true _ 1 0 here) in
       let n = w.count in
       record {
-        under = ap (goes_on (run x s (suc k))) w.under ∙ cond-true _ None (Some back) here ∙ sym (elsewhere 10 (run x s (suc k)) clear);
+        under = ap (return_address (run x s (suc k))) w.under ∙ cond-true _ None (Some back) here ∙ sym (elsewhere 10 (run x s (suc k)) clear);
         count = omega (arith, more, n);
         early = upto k (suc m) w.early (waiting back k m w);
       }
@@ -122,7 +122,7 @@ module _ (x : Environment) (s : State) where
         where
           by_test : (b : Bool) → ((run x s (suc j)).cpu.pc == back) ≡ b → under_way x s j ≡ None
           by_test true e =
-              let idle : under_way x s (suc j) ≡ None = ap (goes_on (run x s (suc j))) is ∙ cond-true _ None (Some back) e in
+              let idle : under_way x s (suc j) ≡ None = ap (return_address (run x s (suc j))) is ∙ cond-true _ None (Some back) e in
               absurd (none_some _ (sym idle ∙ (c.under ∙ enters)))
           by_test false e =
               let same : ended_before x s (suc j) ≡ ended_before x s j + 0 = ap (λ o. ended_before x s j + ends_here (run x s (suc j)) o) is ∙ ap (λ a. ended_before x s j + a) (cond-false _ 1 0 e) in

@@ -6,8 +6,8 @@ use Rattle.std.proofs.lemmas.List.{get_or_past}
 use Rattle.mips_table.specs.Machine.{Console}
 use Rattle.mips_table.specs.Flat.{Flat}
 use Rattle.c0_meaning.specs.World.{call_cost}
-use Rattle.cvm_model.specs.KernelMeaning.{Machines, ints_of, call_numbered, called_by}
-use Rattle.cvm_model.specs.Primitives.{KernelCall, VmGet, VmSet, VmSize, VmResize, VmWord, VmPut, VmCopy, ConPut, ConGet, ConLeft, no_flat, user_of, pages_of, pieces, is_within, is_address, ranges_overlap, is_good, refused, unchanged, granted, prim}
+use Rattle.cvm_model.specs.KernelMeaning.{Machines, ints_of, call_numbered, primitive_called}
+use Rattle.cvm_model.specs.Primitives.{KernelCall, VmGet, VmSet, VmSize, VmResize, VmWord, VmPut, VmCopy, ConPut, ConGet, ConLeft, no_flat, user_of, pages_of, copy_pieces, is_within, is_address, ranges_overlap, is_good, refused, unchanged, granted, prim}
 use Rattle.cvm_model.specs.Stands.{UserFits}
 use Rattle.unit_runs.proofs.Runs.{MOST_UNITS, FewUnits}
 
@@ -18,11 +18,11 @@ pages_few most users i fit = elim (cases_lt (i - 1) (length users)) as (λ c. pa
   | inr ge ↦ let e : user_of users i ≡ no_flat = get_or_past users (i - 1) no_flat ge in subst (λ f. pages_of f ≤ most) (sym e) (omega arith)
 ]
 
-pieces_few : (a b n : ℕ) → pieces a b n ≤ n
+pieces_few : (a b n : ℕ) → copy_pieces a b n ≤ n
 pieces_few a b zero = omega arith
 pieces_few a b (suc n) = let r = pieces_few a b n in by (n == 0 || (a / 4 + n) % 1024 == 0 || (b / 4 + n) % 1024 == 0) r
   where
-    by : (c : Bool) → pieces a b n ≤ n → pieces a b n + (if c then 1 else 0) ≤ suc n
+    by : (c : Bool) → copy_pieces a b n ≤ n → copy_pieces a b n + (if c then 1 else 0) ≤ suc n
     by true r = omega (arith, r)
     by false r = omega (arith, r)
 
@@ -64,7 +64,7 @@ module _ (most : ℕ) (users : List Flat) (o : Console) (small : most ≤ 1024) 
       by true e = granted_few c e
       by false e = omega arith
 
-called_few : (v : Machines) (c : Option KernelCall) → v.most ≤ 1024 → All (UserFits v.most) v.users → (call_cost (called_by v c)).primitive ≤ MOST_UNITS
+called_few : (v : Machines) (c : Option KernelCall) → v.most ≤ 1024 → All (UserFits v.most) v.users → (call_cost (primitive_called v c)).primitive ≤ MOST_UNITS
 called_few v (Some c) small fit = let p = prim_few v.most v.users v.console small fit c in omega (arith, p)
 called_few v None small fit = omega arith
 

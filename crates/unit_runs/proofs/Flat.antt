@@ -15,7 +15,7 @@ use Rattle.c0_meaning.specs.TypedState.{StoreTyping, types_of, PathLeads, LeadsF
 use Rattle.c0_expr_code.specs.Scope.{Scope}
 use Rattle.c0_expr_code.specs.Laws.{IsOpened}
 use Rattle.c0_expr_code.specs.Bases.{Bases, words_of_all, location_word, Held, AllHeld, RegionHeld}
-use Rattle.cvm_model.specs.Kernel.{part_at, value_words_before, part_offset, flat, flats}
+use Rattle.cvm_model.specs.Kernel.{part_of_value, value_words_before, part_offset, flat, flats}
 use Rattle.unit_runs.specs.Held.{HoldsAt}
 
 -- a value has as many words as scalars
@@ -101,7 +101,7 @@ module _ (structs : List Shape) (opened : IsOpened structs) (lay : StoreTyping) 
   there t (suc n) zero h = refl
   there t (suc n) (suc i) h = there t n i (omega (arith, h))
 
-  part_fits : (ts : List Ty) (vs : Values) (i : ℕ) (t : Ty) → AllFit structs lay ts vs → slice_get ts i ≡ Some t → Fits structs lay t (part_at vs i)
+  part_fits : (ts : List Ty) (vs : Values) (i : ℕ) (t : Ty) → AllFit structs lay ts vs → slice_get ts i ≡ Some t → Fits structs lay t (part_of_value vs i)
   part_fits [] empty i t f e = absurd (cc)
   part_fits (u ∷ ts) (part v vs) zero t f e = let q : u ≡ t = cc in subst (λ w. Fits structs lay w v) q f.0
   part_fits (u ∷ ts) (part v vs) (suc i) t f e = part_fits ts vs i t f.1 e
@@ -115,12 +115,12 @@ module _ (structs : List Shape) (opened : IsOpened structs) (lay : StoreTyping) 
   within t [] u v f l = refl
   within (ty.named x) (i ∷ path) u (group vs) f l =
       let a = before (types_of (fields_named structs x)) vs i f in
-      let b = within l.0 path u (part_at vs i) (part_fits (types_of (fields_named structs x)) vs i l.0 f l.1) l.2 in
+      let b = within l.0 path u (part_of_value vs i) (part_fits (types_of (fields_named structs x)) vs i l.0 f l.1) l.2 in
       let c = ap (λ w. words_to structs w path) (at_number (types_of (fields_named structs x)) i l.0 l.1) in
       omega (arith, a, b, c)
   within (ty.array t n) (i ∷ path) u (group vs) f l =
       let a = before (replicate n t) vs i f in
-      let b = within t path u (part_at vs i) (part_fits (replicate n t) vs i t f (there t n i l.0)) l.1 in
+      let b = within t path u (part_of_value vs i) (part_fits (replicate n t) vs i t f (there t n i l.0)) l.1 in
       let c = before_times n i t l.0 in
       omega (arith, a, b, c)
   within ty.int (i ∷ path) u v f l = absurd l
@@ -133,7 +133,7 @@ module _ (structs : List Shape) (opened : IsOpened structs) (lay : StoreTyping) 
   within_region ts [] u v f l = absurd l
   within_region ts (i ∷ path) u (group vs) f l =
       let a = before ts vs i f in
-      let b = within l.0 path u (part_at vs i) (part_fits ts vs i l.0 f l.1) l.2 in
+      let b = within l.0 path u (part_of_value vs i) (part_fits ts vs i l.0 f l.1) l.2 in
       let c = ap (λ w. words_to structs w path) (at_number ts i l.0 l.1) in
       omega (arith, a, b, c)
   within_region ts (i ∷ path) u _ f l = absurd f

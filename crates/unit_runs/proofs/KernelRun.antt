@@ -6,9 +6,9 @@ use Rattle.mips_table.specs.declared.inst.Inst.{Inst}
 use Rattle.mips_table.specs.Device.{Environment}
 use Rattle.mips_table.specs.Machine.{State, run}
 use Rattle.mips_table.specs.Fits.{StaysFitting}
-use Rattle.mips_table.specs.Code.{World, on_machine, Sound, CodeAt}
+use Rattle.mips_table.specs.Code.{World, on_machine, Sound}
 use Rattle.mips_table.specs.Simulation.{MachineSimulates}
-use Rattle.masm.specs.declared.registers.Places.{Places}
+use Rattle.masm.specs.declared.registers.CodeAddresses.{CodeAddresses}
 use Rattle.layer_map.specs.Map.{layer_words, memory_words}
 use Rattle.page_model.specs.Laws.{AlikesStand}
 use Rattle.c0_tree.specs.Primitives.{kernel_primitives}
@@ -21,7 +21,6 @@ use Rattle.c0_meaning.specs.TypedState.{types_of, IsTypedState}
 use Rattle.c0_meaning.specs.Unit.{IsWellFormed}
 use Rattle.c0_meaning.specs.Running.{begin}
 use Rattle.c0_meaning.specs.Execution as c0_run
-use Rattle.c0_runtime.specs.Code.{behind_first}
 use Rattle.c0_runtime.specs.Laws.{EntryRuns}
 use Rattle.c0_expr_code.specs.Scope.{scope_of}
 use Rattle.c0_expr_code.specs.Laws.{IsOpened, AreasHold}
@@ -42,27 +41,27 @@ use Rattle.unit_runs.specs.Host.{MachineFollows}
 use Rattle.unit_runs.specs.Runs.{UnitsRunOverLayers, UnitsCallsFollow}
 use Rattle.unit_runs.proofs.Bounds.{bounds_of}
 use Rattle.unit_runs.proofs.Instructions.{sound}
-use Rattle.unit_runs.proofs.Reached.{RunsJoin}
-use Rattle.unit_runs.proofs.Passing.{Ground}
+use Rattle.unit_runs.proofs.HowFar.{RunsJoin}
+use Rattle.unit_runs.proofs.PrimitivesPass.{Ground}
 use Rattle.unit_runs.proofs.Runs.{RunTo}
 use Rattle.unit_runs.proofs.Hosted.{runs}
-use Rattle.unit_runs.proofs.Ends.{ends}
-use Rattle.unit_runs.proofs.Told.{all_told, no_others}
-use Rattle.unit_runs.proofs.Begins.{signed_fits, code_at, Begun, begun}
+use Rattle.unit_runs.proofs.DispatchEnds.{ends}
+use Rattle.unit_runs.proofs.CallsTold.{all_told, no_others}
+use Rattle.unit_runs.proofs.DispatchBegins.{signed_fits, Begun, begun}
 use Rattle.unit_runs.proofs.FewUnits.{few_units}
 
 -- in a unit with a function a struct's words are those of its fields
-opened_by : AreasHold → (u : CUnit) → IsWellFormed kernel_primitives u → (places : Places) (w : World) (n : ℕ) (f : CFunction) → slice_get u.functions n ≡ Some f → IsOpened (shapes u)
-opened_by areas u well places w n f is =
-    (areas kernel_primitives u well f n is places (record w { words = 1 + words_of_all (shapes u) (types_of (map typed_of u.globals)) + (scope_of u f places).frame })
-    (record { globals = 1; heap = 1 + words_of_all (shapes u) (types_of (map typed_of u.globals)); frame_end = 1 + words_of_all (shapes u) (types_of (map typed_of u.globals)) + (scope_of u f places).frame; objects = [] })
+opened_by : AreasHold → (u : CUnit) → IsWellFormed kernel_primitives u → (addresses : CodeAddresses) (w : World) (n : ℕ) (f : CFunction) → slice_get u.functions n ≡ Some f → IsOpened (shapes u)
+opened_by areas u well addresses w n f is =
+    (areas kernel_primitives u well f n is addresses (record w { words = 1 + words_of_all (shapes u) (types_of (map typed_of u.globals)) + (scope_of u f addresses).frame })
+    (record { globals = 1; heap = 1 + words_of_all (shapes u) (types_of (map typed_of u.globals)); frame_end = 1 + words_of_all (shapes u) (types_of (map typed_of u.globals)) + (scope_of u f addresses).frame; objects = [] })
     (record { from = omega arith; heap = omega arith; frame = omega arith; inside = omega arith }) (record { heap_behind = omega arith; frame_behind = omega arith }) (λ i t e. absurd (cc))).opened
 
 module _ (simulates : MachineSimulates) (joins : RunsJoin) (fitting : StaysFitting) (alikes : AlikesStand) (rows : RowsAreCalled) (ints : UnitsAnswerInts) (entries : (w : World) → Sound w → EntryRuns w)
     (follow : MachineFollows)
     (areas : AreasHold) (dispatch : HasDispatch) (types : TypesEqualAsWritten) (flats : HeldIsFlat) where
   -- a dispatch that is called, over the code of a unit
-  module _ (u : CUnit) (p : Places) (y : Site) (code : List Inst) (sizes : List ℕ) (st : CodeStands u p y code) (variables : Linked y.map sizes (take layer_words y.linked)) (answers : PrimitivesAnswer y)
+  module _ (u : CUnit) (p : CodeAddresses) (y : Site) (code : List Inst) (sizes : List ℕ) (st : CodeStands u p y code) (variables : Linked y.map sizes (take layer_words y.linked)) (answers : PrimitivesAnswer y)
       (x : Environment) (longest : ℕ) (s : State) (c : Core) (cause edata user : ℤ) (called : KernelCalled x longest y (IsTypedState u) c cause edata user s) where
     abbrev standing : RunningRelation x y s Running c
     standing = called.called.at.stands
@@ -98,9 +97,6 @@ module _ (simulates : MachineSimulates) (joins : RunsJoin) (fitting : StaysFitti
     entered : Begun simulates joins fitting alikes rows x y u p code s.memory longest c st ground standing.whole.current small is_sound all_sound s flats opened dispatch types entry entry_all sizes variables cause edata user called.typed called.called refl
     entered = begun simulates joins fitting alikes rows x y u p code s.memory longest c st ground standing.whole.current small is_sound all_sound s flats opened dispatch types entry entry_all sizes variables cause edata user called.typed called.called refl
 
-    behind_entry : CodeAt (on_machine x (program y.map (layer_words + 1) code s.memory)) (layer_words + 1) (behind_first p.globals (4 * (links_of p).function (dispatch_number u)))
-    behind_entry = code_at simulates joins fitting alikes rows x y u p code s.memory longest c st ground standing.whole.current small is_sound all_sound s flats opened dispatch types entry entry_all sizes variables cause edata user called.typed called.called refl
-
     -- what it means within n units
     abbrev outcome : ℕ → c0_run.Outcome Machines Changes
     outcome n = c0_run.dispatch (setting_of u y.map.params) n cause edata user c.c0 (machines_of y.map.params c)
@@ -113,17 +109,17 @@ module _ (simulates : MachineSimulates) (joins : RunsJoin) (fitting : StaysFitti
     ends_as : (n : ℕ) → EndsAs x longest y n s (outcome_of c (outcome n)) (outcome_of c (outcome n)).end
     ends_as n =
         let a0 = called.called.arguments.0 in let a1 = called.called.arguments.1.0 in let a2 = called.called.arguments.1.1.0 in
-        ends simulates joins fitting alikes rows x y u p code s.memory longest c st ground standing.whole.current small is_sound s flats opened entry behind_entry entered.base n entered.few (outcome n) (runs_to n)
+        ends simulates joins fitting alikes rows x y u p code s.memory longest c st ground standing.whole.current small is_sound s flats opened entered.base n entered.few (outcome n) (runs_to n)
         (ints u y.map n c cause edata user st.checked st.range.params standing.whole (subst (FitsSigned w32) a0 (signed_fits _)) (subst (FitsSigned w32) a1 (signed_fits _)) (subst (FitsSigned w32) a2 (signed_fits _)) called.typed)
 
     each_ends : (n m : ℕ) (changes : Changes) → slice_get (outcome_of c (outcome n)).calls m ≡ Some changes → EndsCall x y longest s m changes
     each_ends n m changes is =
-        all_told simulates joins fitting alikes rows x y u p code s.memory longest c st ground standing.whole.current small is_sound s flats opened entry behind_entry entered.base n entered.few (outcome n) (runs_to n) m changes is
+        all_told simulates joins fitting alikes rows x y u p code s.memory longest c st ground standing.whole.current small is_sound s flats opened entered.base n entered.few (outcome n) (runs_to n) m changes is
 
     no_more_end : Leaves y → Exits y → (t : ℕ) → ((j : ℕ) → j ≤ t → Inside (run x s j)) → (n : ℕ) × (entered_before x s t ≤ length (outcome_of c (outcome n)).calls)
     no_more_end leaves exits t inside = (
       8388608 * (t + 1),
-      no_others simulates joins fitting alikes rows x y u p code s.memory longest c st ground standing.whole.current small is_sound s flats opened entry behind_entry entered.base (8388608 * (t + 1)) entered.few
+      no_others simulates joins fitting alikes rows x y u p code s.memory longest c st ground standing.whole.current small is_sound s flats opened entered.base (8388608 * (t + 1)) entered.few
           leaves exits t (omega arith) inside (outcome (8388608 * (t + 1))) (runs_to (8388608 * (t + 1))),
     )
 

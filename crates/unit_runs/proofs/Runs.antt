@@ -7,12 +7,12 @@ use Rattle.mips_table.specs.Fits.{StaysFitting}
 use Rattle.mips_table.specs.Code.{CodeState, on_machine, Sound}
 use Rattle.mips_table.specs.Machine.{State, Console}
 use Rattle.mips_table.specs.Simulation.{MachineSimulates}
-use Rattle.masm.specs.declared.registers.Places.{Places}
+use Rattle.masm.specs.declared.registers.CodeAddresses.{CodeAddresses}
 use Rattle.layer_map.specs.Map.{layer_words}
 use Rattle.page_model.specs.Laws.{AlikesStand}
 use Rattle.c0_tree.specs.Tree.{CUnit}
 use Rattle.c0_meaning.specs.Operators.{faulted, stuck}
-use Rattle.c0_meaning.specs.World.{Configuration, call_cost, journal}
+use Rattle.c0_meaning.specs.World.{Configuration, call_cost, journal_so_far}
 use Rattle.c0_meaning.specs.Running.{Work}
 use Rattle.c0_meaning.specs.Execution.{Outcome, Done, Failed, NotYet}
 use Rattle.c0_meaning.specs.Value.{Values}
@@ -31,9 +31,9 @@ use Rattle.unit_runs.specs.Outer.{Outer}
 use Rattle.unit_runs.specs.Placed.{program, CodeStands}
 use Rattle.unit_runs.specs.Host as host
 use Rattle.unit_runs.specs.Host.{CountsCalls, EndsAll}
-use Rattle.unit_runs.proofs.Reached.{RunsJoin, Reached}
+use Rattle.unit_runs.proofs.HowFar.{RunsJoin, Reached}
 use Rattle.unit_runs.proofs.Site.{setup}
-use Rattle.unit_runs.proofs.Passing.{Ground, Passed, passes}
+use Rattle.unit_runs.proofs.PrimitivesPass.{Ground, Passed, passes}
 
 -- more units than a primitive takes
 abbrev pub MOST_UNITS : ℕ
@@ -60,7 +60,7 @@ last_or_before (x ∷ xs) last (suc m) found e = elim (last_or_before xs last m 
 ]
 
 module _ (simulates : MachineSimulates) (joins : RunsJoin) (fitting : StaysFitting) (alikes : AlikesStand) (rows : RowsAreCalled)
-    (x : Environment) (y : Site) (u : CUnit) (p : Places) (code : List Inst) (words : List ℕ) (longest current : ℕ) (st : CodeStands u p y code) (g : Ground x y words longest) (user_ok : current ≤ y.map.users)
+    (x : Environment) (y : Site) (u : CUnit) (p : CodeAddresses) (code : List Inst) (words : List ℕ) (longest current : ℕ) (st : CodeStands u p y code) (g : Ground x y words longest) (user_ok : current ≤ y.map.users)
     (small : length words < 2 ^ 26) (sound : Sound (on_machine x (program y.map (layer_words + 1) code words))) (s0 : State) where
   abbrev pub z : Setup Machines Changes (Outer y current)
   z = setup x y u p code words st g.bounds g.big small alikes current
@@ -83,11 +83,11 @@ module _ (simulates : MachineSimulates) (joins : RunsJoin) (fitting : StaysFitti
   -- what a run comes to on the machine
   abbrev pub RunTo : (base limit : ℕ) → Outcome Machines Changes → Type 0
   RunTo base limit (Done cost h) = (k : ℕ) × (s : CodeState) × Here k s × Ended Machines Changes (Outer y current) z h s
-      × (k ≤ base + 30 * cost.own + run_steps y.map longest cost.primitive cost.pages) × (1 ≤ cost.own) × Tells k (journal h)
+      × (k ≤ base + 30 * cost.own + run_steps y.map longest cost.primitive cost.pages) × (1 ≤ cost.own) × Tells k (journal_so_far h)
   RunTo base limit (Failed cost (faulted f) h) = (k : ℕ) × (s : CodeState) × Here k s × AtExit Machines Changes (Outer y current) z f h s
-      × (k ≤ base + 30 * cost.own + run_steps y.map longest cost.primitive cost.pages) × (1 ≤ cost.own) × Tells k (journal h)
+      × (k ≤ base + 30 * cost.own + run_steps y.map longest cost.primitive cost.pages) × (1 ≤ cost.own) × Tells k (journal_so_far h)
   RunTo base limit (Failed cost stuck h) = ⊥
-  RunTo base limit (NotYet cost h) = (k : ℕ) × (s : CodeState) × Here k s × (limit < 8388608 * (k + 1)) × Tells k (journal h)
+  RunTo base limit (NotYet cost h) = (k : ℕ) × (s : CodeState) × Here k s × (limit < 8388608 * (k + 1)) × Tells k (journal_so_far h)
 
   -- a primitive is passed, whatever the world's value is
   pub passed : (k : ℕ) (s : CodeState) (to n : ℕ) (row : CPrimitive) (vs : Values) (v : Machines) → Here k s → slice_get kernel_primitives n ≡ Some row → PrimitiveIsCalled z.w (links_of p) row n vs to s → Outer y current v s.contents s.behind

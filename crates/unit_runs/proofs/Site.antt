@@ -6,10 +6,10 @@ use Rattle.mips_table.specs.declared.inst.Inst.{Inst}
 use Rattle.mips_table.specs.Encoding.{encoding}
 use Rattle.mips_table.specs.Device.{Environment}
 use Rattle.mips_table.specs.Code.{Contents, Behind, World, on_machine}
-use Rattle.masm.specs.declared.registers.Places.{Places}
-use Rattle.layer_map.specs.Map.{Map, layer_words, hand_at, current_at, block_at, globals_at, heap_at, stack_at, tables_at, memory_words}
+use Rattle.masm.specs.declared.registers.CodeAddresses.{CodeAddresses}
+use Rattle.layer_map.specs.Map.{Map, layer_words, hand_at, current_at, block_at, globals_at, heap_at, stack_at, tables_at, memory_words, leave_at}
 use Rattle.page_model.specs.Laws.{AlikesStand}
-use Rattle.page_model.specs.Places.{page_layout, places_of, paged_view}
+use Rattle.page_model.specs.TableLayout.{page_layout, table_layout, paged_view}
 use Rattle.c0_tree.specs.Primitives.{CPrimitive, kernel_primitives}
 use Rattle.c0_tree.specs.Tree.{CUnit}
 use Rattle.c0_runtime.specs.Code as runtime
@@ -38,11 +38,11 @@ few_of (r ∷ rows) h (suc n) row e = few_of rows h.1 n row e
 pub kernels_few : HaveFew kernel_primitives
 kernels_few = (omega arith, (omega arith, (omega arith, (omega arith, (omega arith, (omega arith, (omega arith, (omega arith, (omega arith, (omega arith, tt))))))))))
 
--- where the unit's data stand on a map, and the word behind the entry's call
+-- where the unit's data stand on a map, and the word to which `dispatch` returns: the entry at which the kernel is left
 abbrev pub regions_on : Map → UnitData
-regions_on m = record { globals = globals_at m; heap = heap_at m; stack = stack_at m; back = layer_words + 5 }
+regions_on m = record { globals = globals_at m; heap = heap_at m; stack = stack_at m; back = leave_at }
 
-module _ (x : Environment) (y : Site) (u : CUnit) (p : Places) (code : List Inst) (words : List ℕ) (st : CodeStands u p y code) (b : Bounds y.map)
+module _ (x : Environment) (y : Site) (u : CUnit) (p : CodeAddresses) (code : List Inst) (words : List ℕ) (st : CodeStands u p y code) (b : Bounds y.map)
     (big : memory_words y.map ≤ length words) (small : length words < 2 ^ 26) (alikes : AlikesStand) (current : ℕ) where
   -- the code from behind its first instruction on
   abbrev pub world : World
@@ -86,7 +86,7 @@ module _ (x : Environment) (y : Site) (u : CUnit) (p : Places) (code : List Inst
         user = low current_at (omega arith) (λ e. absurd (omega (arith, e))) ∙ o.user;
         places = λ k from to. low k (omega (arith, to)) (λ e. absurd (omega (arith, e, from))) ∙ o.places k from to;
         linked = λ k lt own. let code_words = st.code_words in same k (not_low k (omega (arith, lt, linked_words, code_words, code_room)) (λ e. absurd (true≢false (sym (ap (is_own y.map) e) ∙ own)))) ∙ o.linked k lt own;
-        pages = alikes.stands (page_layout y.map) (pages_by y.map.params.pages v.users) (paged_view (places_of y.map) c.memory d.sectors) (paged_view (places_of y.map) c'.memory d.sectors) o.pages (record {
+        pages = alikes.stands (page_layout y.map) (pages_by y.map.params.pages v.users) (paged_view (table_layout y.map) c.memory d.sectors) (paged_view (table_layout y.map) c'.memory d.sectors) o.pages (record {
           entries = λ q lt. high (tables_at y.map + q) (omega arith);
           counts = λ f is. high _ (omega (arith, is.0, is.1));
           slots = λ f is k lt. high _ (omega (arith, is.0, is.1, lt));
@@ -110,7 +110,7 @@ module _ (x : Environment) (y : Site) (u : CUnit) (p : Places) (code : List Inst
         table = kernel_primitives;
         p = setting_of u y.map.params;
         well_formed = st.checked.well_formed;
-        places = p;
+        addresses = p;
         a = regions;
         low = omega (arith, code_room);
         globals_fit = omega (arith, globals, global_words);
@@ -123,7 +123,7 @@ module _ (x : Environment) (y : Site) (u : CUnit) (p : Places) (code : List Inst
         ];
         globals_at = st.globals;
         functions = λ n f is. stands_at x y.map words code ((links_of p).function n) (function_code (scope_of u f p) (links_of p) f) (st.functions n f is);
-        new_object = stands_at x y.map words code (links_of p).new_object runtime.new_code st.new_object;
+        new_object = stands_at x y.map words code (links_of p).new_object runtime.new_routine st.new_object;
         outer_stays = stays;
         few_arguments = few_of kernel_primitives kernels_few;
         elsewhere = λ n k e q. let c = code_is (layer_words + 1) code k _ e in let le = c.0 in let lt = st.below n in absurd (omega (arith, le, lt, q));

@@ -10,7 +10,7 @@ use Rattle.mips_table.specs.Simulation.{space, contents_of, behind_of, Quiet}
 use Rattle.layer_map.specs.Map.{layer_words, hand_at, current_at, heap_used_at, block_at, globals_at, heap_at, tables_at, memory_words}
 use Rattle.page_model.specs.Laws.{AlikesStand}
 use Rattle.page_model.specs.Edits.{Alike}
-use Rattle.page_model.specs.Places.{page_layout, places_of, paged_view}
+use Rattle.page_model.specs.TableLayout.{page_layout, table_layout, paged_view}
 use Rattle.c0_meaning.specs.RunLaws.{scalars}
 use Rattle.cvm_model.specs.Kernel.{flat, Core}
 use Rattle.cvm_model.specs.KernelMeaning.{machines_of}
@@ -22,7 +22,7 @@ use Rattle.unit_runs.specs.Held.{HoldsAt}
 use Rattle.unit_runs.specs.Outer.{Outer}
 use Rattle.unit_runs.proofs.Flat.{flat_scalars}
 use Rattle.unit_runs.proofs.Bounds.{Bounds}
-use Rattle.unit_runs.proofs.Seen.{space_is, block_seen, block_again}
+use Rattle.unit_runs.proofs.UsersSeen.{space_is, block_seen, block_again}
 
 -- what is seen of a state
 abbrev pub seen : State → Contents
@@ -45,7 +45,7 @@ user_fits y c each u one le = each (u - 1) _ (omega (arith, one, le))
 
 module _ (alikes : AlikesStand) (x : Environment) (y : Site) (b : Bounds y.map) (whole : length y.linked ≡ layer_words + y.map.code_words) where
   -- the words of paging are seen as they are
-  same_pages : (s : State) → memory_words y.map ≤ length s.memory → Alike (page_layout y.map) (paged_of y.map s) (paged_view (places_of y.map) (seen s).memory (behind s).sectors)
+  same_pages : (s : State) → memory_words y.map ≤ length s.memory → Alike (page_layout y.map) (paged_of y.map s) (paged_view (table_layout y.map) (seen s).memory (behind s).sectors)
   same_pages s long =
       let code = b.code in let globals = b.globals in let heap = b.heap in let stack = b.stack in let tables = b.tables in let frame_table = b.frame_table in let memory = b.memory in let zeros = b.zeros in
       record {
@@ -57,7 +57,7 @@ module _ (alikes : AlikesStand) (x : Environment) (y : Site) (b : Bounds y.map) 
         hand = ap (λ n. (page_layout y.map).zeros + 1 + n) (space_is s.memory s.device.buffer s.device.sector hand_at (omega (arith, long)));
       }
 
-  unlike : (s : State) → memory_words y.map ≤ length s.memory → Alike (page_layout y.map) (paged_view (places_of y.map) (seen s).memory (behind s).sectors) (paged_of y.map s)
+  unlike : (s : State) → memory_words y.map ≤ length s.memory → Alike (page_layout y.map) (paged_view (table_layout y.map) (seen s).memory (behind s).sectors) (paged_of y.map s)
   unlike s long = let a = same_pages s long in record {
     entries = λ q lt. sym (a.entries q lt);
     counts = λ f u. sym (a.counts f u);
@@ -87,7 +87,7 @@ module _ (alikes : AlikesStand) (x : Environment) (y : Site) (b : Bounds y.map) 
         user = low s st.memory current_at (omega arith) ∙ st.users.current refl;
         places = λ k from to. low s st.memory k (omega (arith, to)) ∙ st.kernel.places k from to;
         linked = λ k lt own. low s st.memory k (omega (arith, lt, whole)) ∙ st.kernel.linked k lt own;
-        pages = alikes.stands (page_layout y.map) (pages_by y.map.params.pages c.users) (paged_of y.map s) (paged_view (places_of y.map) (seen s).memory (behind s).sectors) st.pages (same_pages s st.memory);
+        pages = alikes.stands (page_layout y.map) (pages_by y.map.params.pages c.users) (paged_of y.map s) (paged_view (table_layout y.map) (seen s).memory (behind s).sectors) st.pages (same_pages s st.memory);
         log_room = st.whole.log;
         input_few = st.whole.input;
         log = st.log;
@@ -134,7 +134,7 @@ module _ (alikes : AlikesStand) (x : Environment) (y : Site) (b : Bounds y.map) 
           runs = λ r. absurd (true≢false (sym r ∙ no_user s h.quiet.mode));
           current = λ e. sym (low s h.long current_at (omega arith)) ∙ h.outer.user;
         };
-        pages = alikes.stands (page_layout y.map) (pages_by y.map.params.pages c.users) (paged_view (places_of y.map) (seen s).memory (behind s).sectors) (paged_of y.map s) h.outer.pages (unlike s h.long);
+        pages = alikes.stands (page_layout y.map) (pages_by y.map.params.pages c.users) (paged_view (table_layout y.map) (seen s).memory (behind s).sectors) (paged_of y.map s) h.outer.pages (unlike s h.long);
         sectors = h.count;
         no_reset = h.quiet.no_reset;
         idle = h.idle;

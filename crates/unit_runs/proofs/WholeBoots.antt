@@ -15,7 +15,7 @@ use Rattle.c0_meaning.specs.Typed.{UnitsAreFaultless}
 use Rattle.c0_meaning.specs.TypedState.{IsTypedState}
 use Rattle.c0_meaning.specs.Unit.{IsChecked}
 use Rattle.c0_unit.specs.Code.{code_words, unit_code, unit_words}
-use Rattle.c0_unit.specs.Laws.{UnitsAreShort, UnitsHavePlaces, UnitsStand}
+use Rattle.c0_unit.specs.Laws.{UnitsAreShort, UnitsHaveAddresses, UnitsStand}
 use Rattle.cvm_model.specs.Cvm.{map_of}
 use Rattle.cvm_model.specs.KernelMeaning.{UnitsAreKernels, kernel_meaning}
 use Rattle.cvm_model.specs.Stands.{Site}
@@ -34,7 +34,7 @@ pub record UnitLaws : Type 0 where
   pub faultless : UnitsAreFaultless
   pub zeros : ZeroHasWords
   pub short : UnitsAreShort
-  pub placed : UnitsHavePlaces
+  pub placed : UnitsHaveAddresses
   pub stand : UnitsStand
   pub kernels : UnitsAreKernels
   pub stay : UnitsStayTyped
@@ -45,8 +45,8 @@ pub record UnitLaws : Type 0 where
 -- as many words as the code has
 words_count : UnitLaws → (s : Source) → IsChecked (unit_view s) → length (unit_words (unit_view s)) ≡ code_words (unit_view s)
 words_count law s checked =
-    let p = law.placed kernel_primitives s checked.well_formed in
     let first = dispatch_number (unit_view s) in
+    let p = law.placed kernel_primitives s checked.well_formed first in
     length-map (unit_code (unit_view s) first) encoding ∙ (law.stand kernel_primitives (unit_view s) checked.well_formed first p.0 p.1).words
 
 -- two maps of the same parts

@@ -9,7 +9,7 @@ use Rattle.layer_map.specs.Map.{layer_words}
 use Rattle.layer_contract.specs.Layer.{Way}
 use Rattle.layer_contract.specs.Follows.{IsKernelDoor}
 use Rattle.layer_contract.specs.Calls.{entered, under_way, ended_before, entered_before, EndsCall}
-use Rattle.c0_meaning.specs.World.{entries_of}
+use Rattle.c0_meaning.specs.World.{all_entries}
 use Rattle.c0_runs.specs.Runs.{RunsFollow}
 use Rattle.cvm_model.specs.Kernel.{Changes}
 use Rattle.cvm_model.specs.KernelMeaning.{Machines}
@@ -58,4 +58,4 @@ pub record TellsCalls (x : Environment) (y : Site) (longest : ℕ) (first : Stat
 -- A LAW: what is left to do, standing in the machine, runs as it means; `told` by the entries of its calls
 abbrev pub MachineFollows : Type 0
 MachineFollows = (f : Fixed) → RunsFollow Machines Changes (Outer f.site f.current) (HasCome f.outside f.site f.code f.words f.first)
-    (λ k v calls. TellsCalls f.outside f.site f.longest f.first k (entries_of calls))
+    (λ k v calls. TellsCalls f.outside f.site f.longest f.first k (all_entries calls))

@@ -6,7 +6,7 @@ use Rattle.mips_table.specs.Processor.{Cpu}
 use Rattle.layer_map.specs.Map.{current_at, heap_words_at, stack_limit_at, block_at}
 use Rattle.layer_map.specs.declared.places.TheConstants.{BLOCK_SIZE, BLOCK_HI, BLOCK_LO}
 use Rattle.page_model.specs.Paging.{PagingInvariant}
-use Rattle.page_model.specs.Places.{page_layout, places_of, paged_view}
+use Rattle.page_model.specs.TableLayout.{page_layout, table_layout, paged_view}
 use Rattle.cvm_model.specs.KernelMeaning.{Machines}
 use Rattle.cvm_model.specs.Primitives.{user_of, pages_of}
 use Rattle.cvm_model.specs.Paged.{pages_by}
@@ -29,7 +29,7 @@ pub record Outer (y : Site) (current : ℕ) (v : Machines) (c : Contents) (d : B
   pub user : c.memory current_at ≡ current
   pub places : (k : ℕ) → heap_words_at ≤ k → k ≤ stack_limit_at → c.memory k ≡ slice_index y.linked k
   pub linked : (k : ℕ) → k < length y.linked → is_own y.map k ≡ false → c.memory k ≡ slice_index y.linked k
-  pub pages : PagingInvariant (page_layout y.map) (pages_by y.map.params.pages v.users) (paged_view (places_of y.map) c.memory d.sectors)
+  pub pages : PagingInvariant (page_layout y.map) (pages_by y.map.params.pages v.users) (paged_view (table_layout y.map) c.memory d.sectors)
   pub log_room : length v.console.log ≤ LOG_ROOM
   pub input_few : length v.console.input ≤ input_room
   pub log : d.log ≡ v.console.log

@@ -4,7 +4,7 @@ use Rattle.std.specs.List.{All}
 use Rattle.mips_table.specs.declared.inst.Inst.{Inst}
 use Rattle.mips_table.specs.Encoding.{InRange, encoding}
 use Rattle.mips_table.specs.Code.{Program}
-use Rattle.masm.specs.declared.registers.Places.{Places}
+use Rattle.masm.specs.declared.registers.CodeAddresses.{CodeAddresses}
 use Rattle.layer_map.specs.Map.{Map, MapInRange, layer_words, primitives_at, exits_at, globals_at, memory_words}
 use Rattle.c0_tree.specs.Tree.{CFunction, CUnit}
 use Rattle.c0_meaning.specs.Env.{typed_of}
@@ -40,9 +40,9 @@ abbrev pub CodeStandsAt : List Inst → ℕ → List Inst → Type 0
 CodeStandsAt code k piece =
     (before : List Inst) × (after : List Inst) × (code ≡ before ++ (piece ++ after)) × (k ≡ layer_words + length before) × (1 ≤ length before)
 
--- The code of a checked unit stands behind a layer's words: its entry first, and the functions and the routine `new` at their places. The globals, the
--- exits of faults and the primitives are where the map and every layer have them.
-pub record CodeStands (u : CUnit) (p : Places) (y : Site) (code : List Inst) : Type 0 where
+-- The code of a checked unit stands behind a layer's words: its entry first, `dispatch` behind it, and the functions and the routine `new` at their
+-- addresses. The globals, the exits of faults and the primitives are where the map and every layer have them.
+pub record CodeStands (u : CUnit) (p : CodeAddresses) (y : Site) (code : List Inst) : Type 0 where
   pub checked : IsChecked u
   pub range : MapInRange y.map
   pub code_words : y.map.code_words ≡ length code
@@ -55,7 +55,8 @@ pub record CodeStands (u : CUnit) (p : Places) (y : Site) (code : List Inst) : T
   pub primitives : (n : ℕ) → n < 10 → (links_of p).primitive n ≡ primitives_at + n
   pub below : (n : ℕ) → (links_of p).primitive n < layer_words
   pub rest : List Inst
-  pub entry : code ≡ runtime.entry_code p.globals (4 * (links_of p).function (dispatch_number u)) ++ rest
+  pub entry : code ≡ runtime.startup_code p.globals ++ rest
+  pub begins : (f : CFunction) → slice_get u.functions (dispatch_number u) ≡ Some f → (links_of p).function (dispatch_number u) ≡ layer_words + 5
   pub functions : (n : ℕ) (f : CFunction) → slice_get u.functions n ≡ Some f
       → CodeStandsAt code ((links_of p).function n) (function_code (scope_of u f p) (links_of p) f)
-  pub new_object : CodeStandsAt code (links_of p).new_object runtime.new_code
+  pub new_object : CodeStandsAt code (links_of p).new_object runtime.new_routine

@@ -1,7 +1,7 @@
 -- That a kernel's code runs as its unit means, over any layer.
 use Rattle.std.specs.Prelude.{◌≡◌, ℕ, ◌≤◌, List, length, map, take, drop}
 use Rattle.mips_table.specs.declared.inst.Inst.{Inst}
-use Rattle.masm.specs.declared.registers.Places.{Places}
+use Rattle.masm.specs.declared.registers.CodeAddresses.{CodeAddresses}
 use Rattle.layer_map.specs.Map.{MapInRange, layer_words}
 use Rattle.c0_tree.specs.declared.tree.Unit.{Unit as Source}
 use Rattle.c0_tree.specs.Tree.{CUnit}
@@ -21,12 +21,12 @@ use Rattle.unit_runs.specs.Placed.{CodeStands}
 
 -- A law: where the code of a checked unit stands behind the words of a layer whose primitives answer, a dispatch over typed data runs as the unit means.
 abbrev pub UnitsRunOverLayers : Type 0
-UnitsRunOverLayers = (u : CUnit) (p : Places) (y : Site) (code : List Inst) (sizes : List ℕ) → CodeStands u p y code
+UnitsRunOverLayers = (u : CUnit) (p : CodeAddresses) (y : Site) (code : List Inst) (sizes : List ℕ) → CodeStands u p y code
     → Linked y.map sizes (take layer_words y.linked) → PrimitivesAnswer y → KernelRuns y (IsTypedState u) (kernel_meaning u y.map.params)
 
 -- A law: over a layer that keeps its laws, the calls that such a dispatch has ended are those that the machine ends, in order, and it ends no others.
 abbrev pub UnitsCallsFollow : Type 0
-UnitsCallsFollow = (u : CUnit) (p : Places) (y : Site) (code : List Inst) (sizes : List ℕ) → CodeStands u p y code
+UnitsCallsFollow = (u : CUnit) (p : CodeAddresses) (y : Site) (code : List Inst) (sizes : List ℕ) → CodeStands u p y code
     → Linked y.map sizes (take layer_words y.linked) → Laws y sizes → CallsFollow y (IsTypedState u) (kernel_meaning u y.map.params)
 
 -- The code of a unit stands behind a layer's words, in a map of its sizes.

@@ -3,7 +3,7 @@
 ghost use Rattle.cvm_model.specs.Kernel.{Changes};
 ghost use Rattle.cvm_model.specs.KernelMeaning.{Machines};
 ghost use Rattle.unit_runs.specs.Held.{HeldIsFlat};
-ghost use Rattle.c0_meaning.specs.World.{entries_of};
+ghost use Rattle.c0_meaning.specs.World.{all_entries};
 ghost use Rattle.unit_runs.specs.Host.{Fixed, HasCome, TellsCalls};
 ghost use Rattle.unit_runs.specs.Outer.{Outer};
 ghost use Rattle.unit_runs.specs.Runs.{CompiledUnitsCallsFollow, CompiledUnitsRun, UnitsCallsFollow, UnitsRunOverLayers};
@@ -13,7 +13,7 @@ use c0_meaning::laws::types_are_equal_as_written;
 use c0_meaning::run_laws::kernels_have_a_dispatch;
 use c0_runs::laws::{Host, runs_follow};
 use c0_runtime::laws::kernels_are_entered;
-use c0_unit::laws::{units_have_places, units_stand};
+use c0_unit::laws::{units_have_addresses, units_stand};
 use cvm_model::{rows_are_called, units_stay_typed};
 use mips_table::runs::{code_runs_on_the_machine, runs_join, words_stay_words};
 use page_model::laws::alikes_stand;
@@ -37,7 +37,7 @@ impl Host for MachineOverLayer {
 
     ghost here = { λ f. HasCome f.outside f.site f.code f.words f.first };
 
-    ghost told = { λ f k v calls. TellsCalls f.outside f.site f.longest f.first k (entries_of calls) };
+    ghost told = { λ f k v calls. TellsCalls f.outside f.site f.longest f.first k (all_entries calls) };
 }
 
 /// Over any layer the code of a checked unit runs as the unit means: a dispatch comes to its answer or its fault within its steps, or is on its way.
@@ -62,7 +62,7 @@ pub fn units_run_over_layers()
 pub fn compiled_units_run()
     ensures { CompiledUnitsRun }
 {
-    units_have_places();
+    units_have_addresses();
     units_stand();
     units_run_over_layers();
 }
@@ -89,7 +89,7 @@ pub fn units_calls_follow()
 pub fn compiled_units_calls_follow()
     ensures { CompiledUnitsCallsFollow }
 {
-    units_have_places();
+    units_have_addresses();
     units_stand();
     units_calls_follow();
 }

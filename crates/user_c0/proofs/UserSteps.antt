@@ -16,7 +16,7 @@ use Rattle.cvm_model.specs.Journal.{replay_step, replay_trap, replay, ReplayJoin
 use Rattle.user_c0.specs.Image.{image_words}
 use Rattle.user_c0.specs.Events.{SYSCALL, CALL_CAUSE, Event, step, call, other, entries_of, journal_of, IsProperEvent, AreProper}
 use Rattle.user_c0.specs.Users.{UserHasCome, UsersGoOn, IntsAreTold}
-use Rattle.user_c0.proofs.Follow.{journal_join}
+use Rattle.user_c0.proofs.ProgramPromises.{journal_join}
 
 proper_join : (es : List Event) (e : Event) → AreProper es → IsProperEvent e → AreProper (es ++ e ∷ [])
 proper_join [] e h is = (is, tt)

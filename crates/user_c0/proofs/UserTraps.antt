@@ -18,10 +18,10 @@ use Rattle.cvm_model.specs.Kernel.{JournalEntry}
 use Rattle.cvm_model.specs.Cvm.{first_flat}
 use Rattle.cvm_model.specs.Journal.{replay, ReplayJoins}
 use Rattle.user_c0.specs.Image.{image_words}
-use Rattle.user_c0.specs.Events.{SYSCALL, CALL_CAUSE, Event, step, call, other, journal_of, replies, calls, others, untrapped, answer_of, answers}
+use Rattle.user_c0.specs.Events.{SYSCALL, CALL_CAUSE, Event, step, call, other, journal_of, replies, call_count, others, untrapped, answer_of, answers}
 use Rattle.user_c0.specs.Program.{EndsBy, steps_of, FollowsMain, ImagesRun}
 use Rattle.user_c0.specs.Users.{UserHasCome, UsersGoOn, IsCall, IsProgramEnd, IsProgram, ProgramsTrap, IsTrapCall, TrapsAreKnown, IsDue, ProgramsStay}
-use Rattle.user_c0.proofs.Follow.{journal_join, replies_join, others_of_join}
+use Rattle.user_c0.proofs.ProgramPromises.{journal_join, replies_join, others_of_join}
 
 -- what events with one more come to
 answers_of : (es : List Event) (e : Event) → answers (es ++ e ∷ []) ≡ answers es ++ map answer_of (replies (e ∷ []))
@@ -31,7 +31,7 @@ answers_of es e = ap (map answer_of) (replies_join es (e ∷ [])) ∙ map_join (
     map_join [] b = refl
     map_join (x ∷ a) b = ap (λ xs. answer_of x ∷ xs) (map_join a b)
 
-calls_of : (es : List Event) (e : Event) → calls (es ++ e ∷ []) ≡ calls es + length (replies (e ∷ []))
+calls_of : (es : List Event) (e : Event) → call_count (es ++ e ∷ []) ≡ call_count es + length (replies (e ∷ []))
 calls_of es e = ap length (replies_join es (e ∷ [])) ∙ length-append (replies es) (replies (e ∷ []))
 
 untrapped_of : (es : List Event) → untrapped (es ++ step ∷ []) ≡ suc (untrapped es)
@@ -87,15 +87,15 @@ module _ (images : ImagesRun) (goes : UsersGoOn) where
         let syscall : vstep f ≡ Trap g causes.Syscall CALL_CAUSE = e ∙ ap (λ c. Trap g c edata) (only_syscall cause is) ∙ ap (Trap g causes.Syscall) data_is in
         let w = follows u (es ++ call None ∷ []) g p (goes.calls u es f g h syscall) in
         let r = w.asks es [] None f refl h.replayed in
-        let few : calls es < suc (length (answers es)) = let l = length-map (replies es) answer_of in omega (arith, l) in
+        let few : call_count es < suc (length (answers es)) = let l = length-map (replies es) answer_of in omega (arith, l) in
         record {
           cause_is = is;
           edata_is = data_is;
           units = r.0;
           argument =
-              ap (λ xs. slice_get xs (calls es)) (ahead.arguments u (answers es) (answer_of None ∷ []) r.0)
-              ∙ take_get (suc (length (answers es))) (prog u (answers es ++ answer_of None ∷ []) r.0).arguments (calls es) (Some (signed (slice_index f.cpu.regs 4))) few
-              (ap (λ given. slice_get (prog u given r.0).arguments (calls es)) (sym (answers_of es (call None))) ∙ r.1);
+              ap (λ xs. slice_get xs (call_count es)) (ahead.arguments u (answers es) (answer_of None ∷ []) r.0)
+              ∙ take_get (suc (length (answers es))) (prog u (answers es ++ answer_of None ∷ []) r.0).arguments (call_count es) (Some (signed (slice_index f.cpu.regs 4))) few
+              (ap (λ given. slice_get (prog u given r.0).arguments (call_count es)) (sym (answers_of es (call None))) ∙ r.1);
         }
 
     ended : (u : CUnit) (es : List Event) (f g : Flat) (cause : Cause) (edata : ℕ) → IsProgram u → UserHasCome u es f → vstep f ≡ Trap g cause edata
@@ -142,7 +142,7 @@ module _ (images : ImagesRun) (goes : UsersGoOn) where
           by (inl lt) =
               let count = calls_of es step in
               let more = untrapped_of es in
-              let within = w.comes (es ++ step ∷ []) [] n (calls es) (sym (append-nil (es ++ step ∷ []))) (subst (λ given. calls es < length (prog u given n).arguments) (sym same) lt) (omega (arith, count)) in
+              let within = w.comes (es ++ step ∷ []) [] n (call_count es) (sym (append-nil (es ++ step ∷ []))) (subst (λ given. call_count es < length (prog u given n).arguments) (sym same) lt) (omega (arith, count)) in
               omega (arith, more, within)
           by (inr over) =
               let more = untrapped_of es in
@@ -161,23 +161,23 @@ record Last (es : List Event) : Type 0 where
   reply : Option ℕ
   after : List Event
   is : es ≡ before ++ call reply ∷ after
-  count : calls es ≡ suc (calls before)
+  count : call_count es ≡ suc (call_count before)
 
-last_call : (es : List Event) → (calls es ≡ 0) ⊎ Last es
+last_call : (es : List Event) → (call_count es ≡ 0) ⊎ Last es
 last_call [] = inl refl
 last_call (e ∷ es) = by (last_call es)
   where
-    longer : (e : Event) → calls es ≡ 0 → (calls (e ∷ es) ≡ 0) ⊎ Last (e ∷ es)
+    longer : (e : Event) → call_count es ≡ 0 → (call_count (e ∷ es) ≡ 0) ⊎ Last (e ∷ es)
     longer step h = inl h
     longer (other c d) h = inl h
     longer (call r) h = inr (record { before = []; reply = r; after = es; is = refl; count = ap suc h })
 
-    more : (e : Event) (a b : List Event) → calls a ≡ suc (calls b) → calls (e ∷ a) ≡ suc (calls (e ∷ b))
+    more : (e : Event) (a b : List Event) → call_count a ≡ suc (call_count b) → call_count (e ∷ a) ≡ suc (call_count (e ∷ b))
     more step a b h = h
     more (other c d) a b h = h
     more (call r) a b h = ap suc h
 
-    by : (calls es ≡ 0) ⊎ Last es → (calls (e ∷ es) ≡ 0) ⊎ Last (e ∷ es)
+    by : (call_count es ≡ 0) ⊎ Last es → (call_count (e ∷ es) ≡ 0) ⊎ Last (e ∷ es)
     by (inl none) = longer e none
     by (inr l) = inr (record { before = e ∷ l.before; reply = l.reply; after = l.after; is = ap (λ xs. e ∷ xs) l.is; count = more e es l.before l.count })
 
@@ -200,36 +200,36 @@ module _ (images : ImagesRun) (joins : ReplayJoins) (trap : ProgramsTrap) (stay 
   traps_are_known = record { next_call = calls_known; next_end = ends_known; few = few }
     where
       few : (u : CUnit) (es : List Event) (f : Flat) → IsProgram u → UserHasCome u es f → (n : ℕ) → HasEnded (prog u (answers es) n).ending
-          → calls es ≤ length (prog u (answers es) n).arguments
+          → call_count es ≤ length (prog u (answers es) n).arguments
       few u es f p h n end = by (last_call es)
         where
-          by : (calls es ≡ 0) ⊎ Last es → calls es ≤ length (prog u (answers es) n).arguments
+          by : (call_count es ≡ 0) ⊎ Last es → call_count es ≤ length (prog u (answers es) n).arguments
           by (inl none) = omega (arith, none)
           by (inr l) =
               let r = front_replays joins (first_flat (image_words u)) (journal_of l.before) (journal_of (call l.reply ∷ l.after)) f
               (ap (replay (first_flat (image_words u))) (sym (ap journal_of l.is ∙ journal_join l.before (call l.reply ∷ l.after))) ∙ h.replayed) in
               let w : FollowsMain u (first_flat (image_words u)) es = images u p.checked p.small (journal_of es) (record { events = es; journal = refl; proper = h.proper }) f h.replayed in
               let a = w.asks l.before l.after l.reply r.0 l.is r.1 in
-              let lt = stay.ended u (answers es) n a.0 (calls l.before) _ end a.1 in
+              let lt = stay.ended u (answers es) n a.0 (call_count l.before) _ end a.1 in
               let count = l.count in
               omega (arith, lt, count)
 
       calls_known : (u : CUnit) (es : List Event) (f g : Flat) (cause : Cause) (edata : ℕ) → IsProgram u → UserHasCome u es f → vstep f ≡ Trap g cause edata
-          → (n : ℕ) (a : ℤ) → slice_get (prog u (answers es) n).arguments (calls es) ≡ Some a → IsTrapCall f a (cause_number cause) edata
+          → (n : ℕ) (a : ℤ) → slice_get (prog u (answers es) n).arguments (call_count es) ≡ Some a → IsTrapCall f a (cause_number cause) edata
       calls_known u es f g cause edata p h e n a known = by (trap.traps u es f g cause edata p h e)
         where
           by : IsCall u es f (cause_number cause) edata ⊎ IsProgramEnd u es (cause_number cause) edata → IsTrapCall f a (cause_number cause) edata
-          by (inl c) = record { cause_is = c.cause_is; edata_is = c.edata_is; argument = stay.agree u (answers es) c.units n (calls es) _ a c.argument known }
+          by (inl c) = record { cause_is = c.cause_is; edata_is = c.edata_is; argument = stay.agree u (answers es) c.units n (call_count es) _ a c.argument known }
           by (inr d) =
-              let lt = stay.ended u (answers es) d.units n (calls es) a (over _ edata d.ends) known in
+              let lt = stay.ended u (answers es) d.units n (call_count es) a (over _ edata d.ends) known in
               let count = d.count in
               absurd (omega (arith, lt, count))
 
       ends_known : (u : CUnit) (es : List Event) (f g : Flat) (cause : Cause) (edata : ℕ) → IsProgram u → UserHasCome u es f → vstep f ≡ Trap g cause edata
-          → (n : ℕ) → HasEnded (prog u (answers es) n).ending → length (prog u (answers es) n).arguments ≡ calls es
+          → (n : ℕ) → HasEnded (prog u (answers es) n).ending → length (prog u (answers es) n).arguments ≡ call_count es
           → (cause_number cause ≡ SYSCALL) × EndsBy (prog u (answers es) n).ending edata
       ends_known u es f g cause edata p h e n end count = by (trap.traps u es f g cause edata p h e)
         where
           by : IsCall u es f (cause_number cause) edata ⊎ IsProgramEnd u es (cause_number cause) edata → (cause_number cause ≡ SYSCALL) × EndsBy (prog u (answers es) n).ending edata
-          by (inl c) = let lt = stay.ended u (answers es) n c.units (calls es) _ end c.argument in absurd (omega (arith, lt, count))
+          by (inl c) = let lt = stay.ended u (answers es) n c.units (call_count es) _ end c.argument in absurd (omega (arith, lt, count))
           by (inr d) = (d.cause_is, subst (λ q. EndsBy q.ending edata) (stay.same_end u (answers es) d.units n (over _ edata d.ends) end) d.ends)

@@ -6,7 +6,7 @@ use Rattle.mips_table.specs.declared.inst.Inst.{Inst}
 use Rattle.mips_table.specs.declared.inst.Inst.TheVariants.{Sll, Srl, Sra, Sllv, Srlv, Srav, Jr, Jalr, Syscall, Add, Addu, Sub, Subu, And, Or, Xor, Nor, Slt, Sltu, Bltz, Bgez, J, Jal, Beq, Bne, Blez, Bgtz, Addi, Addiu, Slti, Sltiu, Andi, Ori, Xori, Lui, Mfc0, Mtc0, Eret, Lw, Sw, Mult, Multu, Div, Divu, Mfhi, Mthi, Mflo, Mtlo}
 use Rattle.mips_table.specs.Encoding.{InRange, encoding}
 use Rattle.mips_table.specs.Fits.{IsWord}
-use Rattle.user_c0.specs.Image.{start_code, stub_code, exits_code, loops_code, variables_of}
+use Rattle.user_c0.specs.Image.{start_code, stub_code, exits_code, loops_code, image_variables}
 
 -- an instruction
 fits : (i : Inst) → InRange i → IsWord (encoding i)
@@ -70,8 +70,8 @@ zero_fits = omega arith
 joined : (n : ℕ) (before part : List ℕ) → All IsWord before → All IsWord part → All IsWord (before ++ (replicate n 0 ++ part))
 joined n before part a b = All-append IsWord before (replicate n 0 ++ part) a (All-append IsWord (replicate n 0) part (All-replicate IsWord n 0 zero_fits) b)
 
-variables : (heap stack limit : ℕ) → IsWord heap → IsWord stack → IsWord limit → All IsWord (variables_of heap stack limit)
-variables heap stack limit h s l = All-from_recursion IsWord (variables_of heap stack limit) (omega arith, (omega arith, (h, (s, (l, tt)))))
+variables : (heap stack limit : ℕ) → IsWord heap → IsWord stack → IsWord limit → All IsWord (image_variables heap stack limit)
+variables heap stack limit h s l = All-from_recursion IsWord (image_variables heap stack limit) (omega arith, (omega arith, (h, (s, (l, tt)))))
 
 start_fits : All IsWord (map encoding start_code)
 start_fits = code_words start_code (All-from_recursion InRange start_code (search rules))
@@ -87,7 +87,7 @@ loops_fit = code_words loops_code (All-from_recursion InRange loops_code (search
 
 -- the words below the unit's code, part by part: they hang on the map by three addresses alone
 abbrev with_start : (heap stack limit : ℕ) → List ℕ
-with_start heap stack limit = map encoding start_code ++ (replicate 1025 0 ++ variables_of heap stack limit)
+with_start heap stack limit = map encoding start_code ++ (replicate 1025 0 ++ image_variables heap stack limit)
 
 abbrev with_stub : (heap stack limit : ℕ) → List ℕ
 with_stub heap stack limit = with_start heap stack limit ++ (replicate 1017 0 ++ map encoding stub_code)
@@ -104,7 +104,7 @@ low_words heap stack limit = with_loops heap stack limit ++ replicate 14310 0
 -- they are words
 pub low_fit : (heap stack limit : ℕ) → IsWord heap → IsWord stack → IsWord limit → All IsWord (low_words heap stack limit)
 low_fit heap stack limit h s l =
-    let a = joined 1025 (map encoding start_code) (variables_of heap stack limit) start_fits (variables heap stack limit h s l) in
+    let a = joined 1025 (map encoding start_code) (image_variables heap stack limit) start_fits (variables heap stack limit h s l) in
     let b = joined 1017 (with_start heap stack limit) (map encoding stub_code) a stub_fits in
     let c = joined 6 (with_stub heap stack limit) (map encoding exits_code) b exits_fit in
     let d = joined 1 (with_exits heap stack limit) (map encoding loops_code) c loops_fit in

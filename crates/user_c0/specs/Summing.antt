@@ -13,7 +13,7 @@ use Rattle.cvm_model.specs.Primitives.{user_of}
 use Rattle.cvm_model.specs.Cvm.{System, Cvm, cvm}
 use Rattle.cvm_model.specs.Journal.{journal, KernelReplays}
 use Rattle.worked_rows.specs.Kernels.{z, name, decl, local, number, block, function}
-use Rattle.user_c0.specs.Events.{SYSCALL, Event, IsAnsweredJournal, calls, others, untrapped}
+use Rattle.user_c0.specs.Events.{SYSCALL, Event, IsAnsweredJournal, call_count, others, untrapped}
 use Rattle.user_c0.specs.Program.{steps_of}
 use Rattle.user_c0.specs.Users.{UserHasCome, IsProgram, IsTrapCall}
 use Rattle.user_c0.specs.Systems.{RunsProgram}
@@ -34,7 +34,7 @@ summing = record {
       call z (local (codes "a") 2) z (name (codes "trap") Primitive 0) (local (codes "s") 1 ∷ []) ∷ [])) (number 0)) ∷ [];
 }
 
--- a unit that is this program, with places in its source or without
+-- a unit that is this program, with spans or without
 pub record IsSumming (u : CUnit) : Type 0 where
   pub program : IsProgram u
   pub is : bare u ≡ summing
@@ -49,7 +49,7 @@ pub record SumsAreTold : Type 0 where
   pub asks : prog summing [] 200 ≡ record { arguments = pos 55 ∷ []; ending = not_yet }
   pub ends : (a : ℤ) (rest : List ℤ) → prog summing (a ∷ rest) 200 ≡ record { arguments = pos 55 ∷ []; ending = done }
   pub traps : (u : CUnit) (es : List Event) (f g : Flat) (cause : Cause) (edata : ℕ) → IsSumming u → UserHasCome u es f → vstep f ≡ Trap g cause edata
-      → SumTrap (calls es) f (cause_number cause) edata
+      → SumTrap (call_count es) f (cause_number cause) edata
   pub soon : (u : CUnit) (es : List Event) (f g : Flat) → IsSumming u → UserHasCome u es f → vstep f ≡ Goes g → others es ≡ []
       → suc (untrapped es) ≤ steps_of 200
 
@@ -58,4 +58,4 @@ pub record SumsAreTold : Type 0 where
 abbrev pub SumsAreToldInSystems : Type 0
 SumsAreToldInSystems = (y : System) (lines : ℕ → ℕ) (units turns n : ℕ) (c : Cvm) (u : CUnit) → IsSumming u → KernelReplays y.boot.meaning → 1 ≤ n → n ≤ length y.boot.users → RunsProgram y n u
     → cvm y lines units turns ≡ Some c → (a : IsAnsweredJournal (journal y lines units n turns)) → (g : Flat) (cause : Cause) (edata : ℕ) → vstep (user_of c.core.users n) ≡ Trap g cause edata
-    → SumTrap (calls a.events) (user_of c.core.users n) (cause_number cause) edata
+    → SumTrap (call_count a.events) (user_of c.core.users n) (cause_number cause) edata

@@ -18,8 +18,8 @@ use Rattle.cvm_model.specs.Primitives.{with_register}
 use Rattle.cvm_model.specs.Cvm.{first_flat}
 use Rattle.cvm_model.specs.Journal.{replay}
 use Rattle.user_c0.specs.declared.image.TheConstants.{TOLD}
-use Rattle.user_c0.specs.Image.{map_of, image_words}
-use Rattle.user_c0.specs.Events.{SYSCALL, CALL_CAUSE, Event, step, call, other, journal_of, AreProper, calls, others, untrapped, answer_of, answers}
+use Rattle.user_c0.specs.Image.{map_of_image, image_words}
+use Rattle.user_c0.specs.Events.{SYSCALL, CALL_CAUSE, Event, step, call, other, journal_of, AreProper, call_count, others, untrapped, answer_of, answers}
 use Rattle.user_c0.specs.Program.{MAX_IMAGE, EndsBy, steps_of}
 
 -- THE USER'S MACHINE after these events, from its image on
@@ -49,19 +49,19 @@ pub record IsCall (u : CUnit) (es : List Event) (f : Flat) (cause edata : ℕ) :
   pub cause_is : cause ≡ SYSCALL
   pub edata_is : edata ≡ CALL_CAUSE
   pub units : ℕ
-  pub argument : slice_get (prog u (answers es) units).arguments (calls es) ≡ Some (signed (slice_index f.cpu.regs TOLD))
+  pub argument : slice_get (prog u (answers es) units).arguments (call_count es) ≡ Some (signed (slice_index f.cpu.regs TOLD))
 
 -- a trap is that of the program's end, which came after the last of these calls
 pub record IsProgramEnd (u : CUnit) (es : List Event) (cause edata : ℕ) : Type 0 where
   pub cause_is : cause ≡ SYSCALL
   pub units : ℕ
   pub ends : EndsBy (prog u (answers es) units).ending edata
-  pub count : length (prog u (answers es) units).arguments ≡ calls es
+  pub count : length (prog u (answers es) units).arguments ≡ call_count es
 
 -- a checked unit whose image a user may be
 pub record IsProgram (u : CUnit) : Type 0 where
   pub checked : IsCheckedAs User u
-  pub small : tables_at (map_of u) ≤ MAX_IMAGE
+  pub small : tables_at (map_of_image u) ≤ MAX_IMAGE
 
 -- A LAW: each trap of a program is its next call or its end, and leaves the registers
 pub record ProgramsTrap : Type 0 where
@@ -79,16 +79,16 @@ pub record IsTrapCall (f : Flat) (a : ℤ) (cause edata : ℕ) : Type 0 where
 -- next trap is that of its end. In how many units that is known plays no part. And where it is known to end it was answered no more often than it calls.
 pub record TrapsAreKnown : Type 0 where
   pub next_call : (u : CUnit) (es : List Event) (f g : Flat) (cause : Cause) (edata : ℕ) → IsProgram u → UserHasCome u es f → vstep f ≡ Trap g cause edata
-      → (n : ℕ) (a : ℤ) → slice_get (prog u (answers es) n).arguments (calls es) ≡ Some a → IsTrapCall f a (cause_number cause) edata
+      → (n : ℕ) (a : ℤ) → slice_get (prog u (answers es) n).arguments (call_count es) ≡ Some a → IsTrapCall f a (cause_number cause) edata
   pub next_end : (u : CUnit) (es : List Event) (f g : Flat) (cause : Cause) (edata : ℕ) → IsProgram u → UserHasCome u es f → vstep f ≡ Trap g cause edata
-      → (n : ℕ) → HasEnded (prog u (answers es) n).ending → length (prog u (answers es) n).arguments ≡ calls es
+      → (n : ℕ) → HasEnded (prog u (answers es) n).ending → length (prog u (answers es) n).arguments ≡ call_count es
       → (cause_number cause ≡ SYSCALL) × EndsBy (prog u (answers es) n).ending edata
   pub few : (u : CUnit) (es : List Event) (f : Flat) → IsProgram u → UserHasCome u es f
-      → (n : ℕ) → HasEnded (prog u (answers es) n).ending → calls es ≤ length (prog u (answers es) n).arguments
+      → (n : ℕ) → HasEnded (prog u (answers es) n).ending → call_count es ≤ length (prog u (answers es) n).arguments
 
 -- the program makes its next call within n units, or ends
 abbrev pub IsDue : CUnit → List Event → ℕ → Type 0
-IsDue u es n = (calls es < length (prog u (answers es) n).arguments) ⊎ HasEnded (prog u (answers es) n).ending
+IsDue u es n = (call_count es < length (prog u (answers es) n).arguments) ⊎ HasEnded (prog u (answers es) n).ending
 
 -- A LAW: while a program's next call or its end is due within n units, its steps so far stay below those of n units; and a program that has ended traps
 -- again after one step at most

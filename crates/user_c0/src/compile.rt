@@ -5,7 +5,7 @@ ghost use Rattle.c0_tree.specs.View.{unit_view};
 ghost use Rattle.c0_unit.specs.Code.{program_words};
 ghost use Rattle.cvm_model.specs.Cvm.{first_flat};
 ghost use Rattle.user_c0.specs.Compiled.{IsSizeFaultOf};
-ghost use Rattle.user_c0.specs.Image.{image_words, map_of};
+ghost use Rattle.user_c0.specs.Image.{image_words, map_of_image};
 ghost use Rattle.user_c0.specs.Program.{MAX_IMAGE, RunsAsMeant};
 
 use crate::fault::UserFault;
@@ -13,7 +13,7 @@ use crate::image::{ROOM, image};
 use crate::laws::{images_are_whole, images_run};
 use c0_meaning::UserChecked;
 use c0_meaning::laws::units_are_typed_or_faulty;
-use c0_unit::laws::{units_have_places, units_stand};
+use c0_unit::laws::{units_have_addresses, units_stand};
 use c0_unit::{compile_flat, global_words};
 use layer_map::{Map, Params};
 use std::alloc::{AllocError, Global};
@@ -37,9 +37,9 @@ fn compiled(alloc: Global, unit: &UserChecked) -> Result<Vec<u32>, AllocError>
 fn image_map(unit: &UserChecked, code: &[u32]) -> Map
     requires code { code.now ≡ program_words (unit_view unit.now) }
     requires most { length code.now ≤ 4177920 }
-    ensures { result ≡ map_of (unit_view unit.now) }
+    ensures { result ≡ map_of_image (unit_view unit.now) }
 {
-    units_have_places();
+    units_have_addresses();
     units_stand();
     let _unit = unit.unit();
     let params = Params {
@@ -54,7 +54,7 @@ fn image_map(unit: &UserChecked, code: &[u32]) -> Map
 
 // How many words a program's image has.
 fn image_size(unit: &UserChecked, map: &Map) -> u32
-    requires { map.now ≡ map_of (unit_view unit.now) }
+    requires { map.now ≡ map_of_image (unit_view unit.now) }
     ensures { result ≡ length (image_words (unit_view unit.now)) }
 {
     images_are_whole();
@@ -70,7 +70,7 @@ fn laid_out(
     map: &Map,
 ) -> Result<Vec<u32>, AllocError>
     requires code { code.now ≡ program_words (unit_view unit.now) }
-    requires map { map.now ≡ map_of (unit_view unit.now) }
+    requires map { map.now ≡ map_of_image (unit_view unit.now) }
     requires most { length (image_words (unit_view unit.now)) ≤ MAX_IMAGE }
     ensures words { IfOk result (λ v. v.items ≡ image_words (unit_view unit.now)) }
     ensures runs { IfOk result (λ v. RunsAsMeant (unit_view unit.now) (first_flat v.items)) }

@@ -4,14 +4,14 @@ ghost use Rattle.user_c0.specs.Echoing.{EchoesForEver};
 
 use crate::users::traps_are_known;
 use c0_meaning::program_laws::{
-    answers_ahead_dont_matter, programs_ignore_places, what_is_made_is_asked,
+    answers_ahead_dont_matter, programs_ignore_spans, what_is_made_is_asked,
 };
 
 /// The program tells each of its answers, for ever.
 pub fn echoes_for_ever()
     ensures { EchoesForEver }
 {
-    programs_ignore_places();
+    programs_ignore_spans();
     answers_ahead_dont_matter();
     what_is_made_is_asked();
     traps_are_known();

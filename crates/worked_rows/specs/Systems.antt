@@ -7,7 +7,7 @@ use Rattle.mips_table.specs.Flat.{Flat}
 use Rattle.layer_map.specs.declared.params.Params.{Params}
 use Rattle.layer_map.specs.Map.{Map}
 use Rattle.c0_tree.specs.Tree.{CUnit}
-use Rattle.worked_rows.specs.Kernels.{counts}
+use Rattle.worked_rows.specs.Kernels.{counting_kernel}
 use Rattle.cvm_model.specs.Cvm.{System, first_flat}
 use Rattle.cvm_model.specs.KernelMeaning.{kernel_meaning}
 
@@ -35,8 +35,8 @@ no_page = record { cpu = record { pc = 0; regs = replicate 32 0; hi = 0; lo = 0 
 abbrev pub system_with : Params → CUnit → List (List ℕ) → System
 system_with p u users = record { boot = record { params = p; meaning = kernel_meaning u p; words = replicate 16384 0; users = users }; input = []; longest = 0 }
 
-abbrev pub system_of : CUnit → List (List ℕ) → System
-system_of u users = system_with params u users
+abbrev pub system_for : CUnit → List (List ℕ) → System
+system_for u users = system_with params u users
 
 -- with two frames
 abbrev pub two_frames_with : CUnit → List ℕ → System
@@ -44,15 +44,15 @@ two_frames_with u words = system_with (record params { frames = 2 }) u (words �
 
 -- one user of no words under a kernel that counts its page faults, and halts at the second
 abbrev pub counting_system : System
-counting_system = system_of counts ([] ∷ [])
+counting_system = system_for counting_kernel ([] ∷ [])
 
 -- lui r1, 0x7fff; ori r1, r1, 0xffff; addi r2, r1, 1
 abbrev pub overflowing : List ℕ
 overflowing = encoding (Lui 1 0x7fff) ∷ encoding (Ori 1 1 0xffff) ∷ encoding (Addi 2 1 1) ∷ []
 
 -- a user that stores to two pages for ever: sw r1, 4096(r0); sw r2, 8192(r0); j 0
-abbrev pub storing : List ℕ
-storing = 0xac011000 ∷ 0xac022000 ∷ 0x08000000 ∷ []
+abbrev pub storing_user : List ℕ
+storing_user = 0xac011000 ∷ 0xac022000 ∷ 0x08000000 ∷ []
 
 -- one that stores to a copy of its page: ori r1, r0, 5; sw r1, 4096(r0); syscall
 abbrev pub splitting : List ℕ
@@ -72,18 +72,18 @@ awaiting = 0x8c010040 ∷ 0x1020fffe ∷ 0x8c030044 ∷ 0x1060fffc ∷ 0x0023202
 
 -- three users under a kernel that schedules them: two add and send the sum to the third
 abbrev pub three_users_under : CUnit → System
-three_users_under u = system_of u (adding 10 ∷ adding 20 ∷ awaiting ∷ [])
+three_users_under u = system_for u (adding 10 ∷ adding 20 ∷ awaiting ∷ [])
 
 -- syscall, 1,021 zeros, 11, 12, 13, 14; and syscall
-abbrev pub sender : List ℕ
-sender = 12 ∷ replicate 1021 0 ++ 11 ∷ 12 ∷ 13 ∷ 14 ∷ []
+abbrev pub sending_user : List ℕ
+sending_user = 12 ∷ replicate 1021 0 ++ 11 ∷ 12 ∷ 13 ∷ 14 ∷ []
 
 abbrev pub sending : List Flat
-sending = first_flat sender ∷ first_flat (12 ∷ []) ∷ []
+sending = first_flat sending_user ∷ first_flat (12 ∷ []) ∷ []
 
 -- one user: syscall
-abbrev pub asks : List ℕ
-asks = 0x0000000c ∷ []
+abbrev pub asking_user : List ℕ
+asking_user = 0x0000000c ∷ []
 
 -- a user that runs past the end of its page: ori r1, r0, 7; sw r1, 4092(r0); j 1023
 abbrev pub running_past : List ℕ

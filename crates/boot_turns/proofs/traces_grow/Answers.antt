@@ -1,7 +1,7 @@
 -- From the laws below.
 use Rattle.c0_tree.specs.Tree.{CUnit}
 use Rattle.c0_meaning.specs.TypedState.{IsTypedState}
-use Rattle.boot_turns.proofs.Tracing.{traces_grow}
+use Rattle.boot_turns.proofs.TracesGrow.{traces_grow}
 use Rattle.boot_turns.proofs.traces_grow.Goals as goal
 
 pub returns : goal.returns

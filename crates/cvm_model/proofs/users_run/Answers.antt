@@ -1,5 +1,5 @@
 -- By who is next.
-use Rattle.cvm_model.proofs.Running.{users_run}
+use Rattle.cvm_model.proofs.RunningUsers.{users_run}
 use Rattle.cvm_model.proofs.users_run.Goals as goal
 
 pub returns : goal.returns

@@ -3,13 +3,13 @@ use Rattle.cvm_outside.specs.Outside.{files as told_files, output, drive}
 use Rattle.real_layer.specs.Image.{layer_image}
 use Rattle.run_scripts.specs.Command.{command_of}
 use Rattle.run_scripts.specs.Ends.{AreBytes}
-use Rattle.cvm_shell.specs.Does.{AreGot, StopGets}
+use Rattle.cvm_shell.specs.Does.{WereGot, StopGets}
 use Rattle.cvm_shell.specs.Stages.{FilesPlan, IsBootPlan, ready_for}
 use Rattle.cvm_shell.specs.Views.{boot_view}
 use Rattle.cvm_shell.proofs.CommandPlans.{session_of, viewed_plan}
 use Rattle.cvm_shell.proofs.GotCalls.{beside}
 use Rattle.cvm_shell.proofs.Plans.{if_refused}
-use Rattle.cvm_shell.proofs.Doing.{found, viewed, run_done, stop_done}
+use Rattle.cvm_shell.proofs.StageEnds.{found, viewed, run_done, stop_done}
 use Rattle.cvm_shell.proofs.StartAnswers.{told_disk}
 use Rattle.cvm_shell.proofs.run_boot.Goals as goal
 
@@ -25,7 +25,7 @@ returns-in-Ok g c = λ words is.
     (viewed_plan _ b c.args.view _ (c.in-Ok.ensures.comes session)) (λ e. cc) (λ e. cc)
     (found words (command_of b c.args.view) before is (viewed (AreBytes before.shelf.file) b c.args.view c.in-Ok.ensures.bytes)
     (told_disk (g.D.Sectors.size c.args.disk.now) (g.D.Sectors.sectors c.args.disk.now) (g.met.D.Sectors.sized c.args.disk.now) c.are_sectors.ensures))
-    (viewed (λ names. AreGot names before mid) b c.args.view (c.in-Ok.ensures.gets sink disk)) refl
+    (viewed (λ names. WereGot names before mid) b c.args.view (c.in-Ok.ensures.gets sink disk)) refl
     (c.run_system.ensures (told_files g.S.Shelf c.plan.new.shelf))
 
 pub returns-in-Err : goal.returns-in-Err

@@ -1,18 +1,18 @@
 use Rattle.std.proofs.Common.{◌≡◌, List, Global, subst}
 use Rattle.std.specs.declared.string.String.{String}
 use Rattle.cvm_shell.specs.declared.command.Command.{Command}
-use Rattle.run_scripts.specs.Command.{IsCommand, texts}
+use Rattle.run_scripts.specs.Command.{IsCommand, word_texts}
 use Rattle.cvm_shell.specs.Views.{command_view}
 use Rattle.cvm_outside.specs.Outside.{files as told_files, drive as told_drive}
-use Rattle.cvm_shell.proofs.Doing.{bad_words_done}
+use Rattle.cvm_shell.proofs.StageEnds.{bad_words_done}
 use Rattle.cvm_shell.proofs.run_command.Goals as goal
 
 pub returns-in-None : goal.returns-in-None
 returns-in-None g c = bad_words_done _ _ _ _ c.in-None.ensures.none (c.say.ensures (told_files g.S.Shelf c.args.shelf.now) (told_drive g.D.Sectors c.args.disk.now))
 
 -- the words are those of the command that was read
-read_as : (words : List (String Global)) (x y : Command) → IsCommand (texts words) (command_view x) → x ≡ y → IsCommand (texts words) (command_view y)
-read_as words x y is same = subst (λ (z : Command). IsCommand (texts words) (command_view z)) same is
+read_as : (words : List (String Global)) (x y : Command) → IsCommand (word_texts words) (command_view x) → x ≡ y → IsCommand (word_texts words) (command_view y)
+read_as words x y is same = subst (λ (z : Command). IsCommand (word_texts words) (command_view z)) same is
 
 pub returns-in-Some-Boot : goal.returns-in-Some-Boot
 returns-in-Some-Boot g c = c.run_boot.ensures _ (read_as _ _ _ c.in-Some-Boot.ensures.found c.in-Some-Boot.field-0-is)

@@ -3,7 +3,7 @@ use Rattle.cvm_shell.specs.declared.boot.Stop.{Stop}
 use Rattle.cvm_outside.specs.Outside.{drive}
 use Rattle.run_scripts.specs.Command.{sample_session}
 use Rattle.cvm_shell.specs.Stages.{ready_for}
-use Rattle.cvm_shell.proofs.Doing.{sample_done, sample_stopped}
+use Rattle.cvm_shell.proofs.StageEnds.{sample_done, sample_stopped}
 use Rattle.cvm_shell.proofs.StartAnswers.{told_disk}
 use Rattle.cvm_shell.proofs.run_sample.Goals as goal
 

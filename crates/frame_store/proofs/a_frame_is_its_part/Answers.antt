@@ -1,7 +1,7 @@
 -- The law is the lemmas on one frame of a list of words; another frame lies before the one that is written, or after it.
 use Rattle.std.proofs.Common.{inl, inr}
 use Rattle.std.proofs.lemmas.Bool.{cases_order}
-use Rattle.frame_store.proofs.Store.{length-frame_of, length-with_frame, word-frame_of, word-inside, word-before, word-after, same-frame, later-frame, earlier-frame, set-word}
+use Rattle.frame_store.proofs.FrameIsItsPart.{length-frame_of, length-with_frame, word-frame_of, word-inside, word-before, word-after, same-frame, later-frame, earlier-frame, set-word}
 use Rattle.frame_store.proofs.a_frame_is_its_part.Goals as goal
 
 pub returns-clause-whole : goal.returns-clause-whole

@@ -2,4 +2,4 @@ use Rattle.kernel_theorems.proofs.Texts.{program_texts}
 use Rattle.kernel_theorems.proofs.program_texts_mean_trees.Goals as goal
 
 pub returns : goal.returns
-returns c = program_texts c.sources_read_by_walks.ensures c.programs_have_one_answer.ensures c.programs_ignore_places.ensures
+returns c = program_texts c.sources_read_by_walks.ensures c.programs_have_one_answer.ensures c.programs_ignore_spans.ensures

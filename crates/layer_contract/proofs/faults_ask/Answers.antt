@@ -1,5 +1,5 @@
 -- By where the step's addresses stand.
-use Rattle.layer_contract.proofs.Asking.{asks_page}
+use Rattle.layer_contract.proofs.PageAskedFor.{asks_page}
 use Rattle.layer_contract.proofs.faults_ask.Goals as goal
 
 pub returns : goal.returns

@@ -1,5 +1,5 @@
 -- By two inductions on the steps.
-use Rattle.layer_contract.proofs.Starting.{starts_go_on}
+use Rattle.layer_contract.proofs.LayerTakesOver.{starts_go_on}
 use Rattle.layer_contract.proofs.starts_go_on.Goals as goal
 
 pub returns : goal.returns

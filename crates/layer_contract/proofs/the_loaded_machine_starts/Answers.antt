@@ -1,5 +1,5 @@
 -- By the law that the body calls.
-use Rattle.layer_contract.proofs.Loading.{loaded_starts, loaded_keeps}
+use Rattle.layer_contract.proofs.LoadedStarts.{loaded_starts, loaded_keeps}
 use Rattle.layer_contract.proofs.the_loaded_machine_starts.Goals as goal
 
 pub returns-clause-start : goal.returns-clause-start

@@ -1,5 +1,5 @@
 -- Any step of a user.
-use Rattle.layer_contract.proofs.Turn.{user_steps_or_faults}
+use Rattle.layer_contract.proofs.TurnBegins.{user_steps_or_faults}
 use Rattle.layer_contract.proofs.users_follow_or_fault.Goals as goal
 
 pub returns : goal.returns

@@ -1,4 +1,4 @@
-use Rattle.run_bounds.proofs.Steps.{bounds_are_small}
+use Rattle.run_bounds.proofs.RunBound.{bounds_are_small}
 use Rattle.run_bounds.proofs.bounds_are_small.Goals as goal
 
 pub returns : goal.returns

@@ -1,4 +1,4 @@
-use Rattle.run_bounds.proofs.Steps.{dispatches_use_pages}
+use Rattle.run_bounds.proofs.RunBound.{dispatches_use_pages}
 use Rattle.run_bounds.proofs.dispatches_use_pages.Goals as goal
 
 pub returns : goal.returns

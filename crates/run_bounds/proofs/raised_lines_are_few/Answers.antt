@@ -1,4 +1,4 @@
-use Rattle.run_bounds.proofs.Lines.{raised_lines_are_few}
+use Rattle.run_bounds.proofs.FewTurnsHaveLines.{raised_lines_are_few}
 use Rattle.run_bounds.proofs.raised_lines_are_few.Goals as goal
 
 pub returns : goal.returns

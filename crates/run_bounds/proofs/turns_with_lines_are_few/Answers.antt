@@ -1,4 +1,4 @@
-use Rattle.run_bounds.proofs.Lines.{lines_are_few}
+use Rattle.run_bounds.proofs.FewTurnsHaveLines.{lines_are_few}
 use Rattle.run_bounds.proofs.turns_with_lines_are_few.Goals as goal
 
 pub returns : goal.returns

@@ -1,4 +1,4 @@
-use Rattle.boot_report.proofs.Telling.{rows_tell}
+use Rattle.boot_report.proofs.UsersTell.{rows_tell}
 use Rattle.boot_report.proofs.laws.the_rows_tell.Goals as goal
 
 pub returns : goal.returns

@@ -1,4 +1,4 @@
-use Rattle.boot_report.proofs.Telling.{words_show}
+use Rattle.boot_report.proofs.UsersTell.{words_show}
 use Rattle.boot_report.proofs.laws.the_words_show.Goals as goal
 
 pub returns : goal.returns

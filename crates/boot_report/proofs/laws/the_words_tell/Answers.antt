@@ -1,4 +1,4 @@
-use Rattle.boot_report.proofs.Telling.{words_tell}
+use Rattle.boot_report.proofs.UsersTell.{words_tell}
 use Rattle.boot_report.proofs.laws.the_words_tell.Goals as goal
 
 pub returns : goal.returns

@@ -1,6 +1,6 @@
 use Rattle.std.proofs.Common.{◌≡◌, ◌+◌, ◌<◌, length, refl, sym, ap, arith}
 use Rattle.std.proofs.lemmas.Result.{err_from_is_err_and}
-use Rattle.cvm_outside.proofs.Putting.{puts_none, puts_same}
+use Rattle.cvm_outside.proofs.RowsPut.{puts_none, puts_same}
 use Rattle.boot_report.specs.Texts.{memory_row}
 use Rattle.boot_report.proofs.Texts.{rows_none, rows_more, rows_stop, texts-empty}
 use Rattle.boot_report.proofs.memory.put_line.Goals as goal

@@ -2,8 +2,8 @@ use Rattle.std.proofs.Common.{◌≡◌, ◌+◌, [], refl, ◌∙◌, arith, ru
 use Rattle.std.proofs.lemmas.Result.{err_from_is_err_and}
 use Rattle.mips_machine.specs.Machine.{state_of}
 use Rattle.cvm_outside.specs.Outside.{no_files, output}
-use Rattle.cvm_outside.proofs.Follow.{first}
-use Rattle.cvm_outside.proofs.Putting.{loop_none, loop_more, loop_stop, unwritten, same_size}
+use Rattle.cvm_outside.proofs.ScriptsFollow.{first}
+use Rattle.cvm_outside.proofs.RowsPut.{loop_none, loop_more, loop_stop, unwritten, same_size}
 use Rattle.boot_report.proofs.MemoryLemmas.{reads_quiet, page_performs}
 use Rattle.boot_report.proofs.memory.put_memory.Goals as goal
 

@@ -1,7 +1,7 @@
 use Rattle.std.proofs.Common.{◌≡◌, ◌+◌, ◌-◌, ◌*◌, refl, arith}
 use Rattle.std.specs.Prelude.{slice_index}
 use Rattle.std.proofs.lemmas.Result.{err_from_is_err_and}
-use Rattle.cvm_outside.proofs.Putting.{puts_same}
+use Rattle.cvm_outside.proofs.RowsPut.{puts_same}
 use Rattle.boot_report.specs.Texts.{memory_row}
 use Rattle.boot_report.proofs.Texts.{rows_none, rows_more, rows_stop, texts-lines}
 use Rattle.boot_report.proofs.MemoryLemmas.{line_is}

@@ -1,6 +1,6 @@
 use Rattle.std.proofs.Common.{[], ap, ◌∙◌}
 use Rattle.std.specs.Prelude.{◌==◌, if◌then◌else◌}
-use Rattle.cvm_outside.proofs.Putting.{puts_same}
+use Rattle.cvm_outside.proofs.RowsPut.{puts_same}
 use Rattle.boot_report.proofs.rows.put_hi.Goals as goal
 
 pub returns : goal.returns

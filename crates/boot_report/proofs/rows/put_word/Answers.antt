@@ -3,7 +3,7 @@ use Rattle.std.specs.Prelude.{◌==◌}
 use Rattle.std.proofs.lemmas.Bool.{cond-false}
 use Rattle.cvm_text.specs.Hex.{hex8}
 use Rattle.cvm_model.specs.Text.{hex_row}
-use Rattle.cvm_outside.proofs.Putting.{puts_same}
+use Rattle.cvm_outside.proofs.RowsPut.{puts_same}
 use Rattle.boot_report.proofs.rows.put_word.Goals as goal
 
 pub returns : goal.returns

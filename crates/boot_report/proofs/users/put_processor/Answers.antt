@@ -1,5 +1,5 @@
 use Rattle.std.proofs.lemmas.Result.{err_from_is_err_and}
-use Rattle.cvm_outside.proofs.Putting.{puts_both, puts_first}
+use Rattle.cvm_outside.proofs.RowsPut.{puts_both, puts_first}
 use Rattle.boot_report.proofs.users.put_processor.Goals as goal
 
 pub returns-in_err-put_user : goal.returns-in_err-put_user

@@ -2,7 +2,7 @@ use Rattle.std.proofs.Common.{◌≡◌, ◌+◌, ◌<◌, refl, ◌∙◌, arit
 use Rattle.std.specs.Prelude.{◌==◌}
 use Rattle.std.proofs.lemmas.Result.{err_from_is_err_and}
 use Rattle.cvm_outside.specs.Outside.{no_files}
-use Rattle.cvm_outside.proofs.Putting.{loop_none, loop_more, loop_stop_by, unwritten, same_size}
+use Rattle.cvm_outside.proofs.RowsPut.{loop_none, loop_more, loop_stop_by, unwritten, same_size}
 use Rattle.boot_report.proofs.UserLemmas.{user_quiet, told_here, somebody}
 use Rattle.boot_report.proofs.users.put_users.Goals as goal
 

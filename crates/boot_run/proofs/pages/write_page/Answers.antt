@@ -3,7 +3,7 @@ use Rattle.std.proofs.lemmas.List.FromFn.{fill_by_all}
 use Rattle.cvm_outside.specs.Numbering.{tally}
 use Rattle.cvm_outside.specs.Outside.{drive}
 use Rattle.cvm_outside.specs.Script.{done}
-use Rattle.cvm_outside.proofs.Putting.{write_once}
+use Rattle.cvm_outside.proofs.RowsPut.{write_once}
 use Rattle.boot_run.specs.LoadedPages.{disk_pages}
 use Rattle.boot_run.proofs.UserPages.{on_ok}
 use Rattle.boot_run.proofs.PageLemmas.{call_made, no_call, page_written, page_left, page_torn}

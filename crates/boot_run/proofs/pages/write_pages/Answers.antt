@@ -1,6 +1,6 @@
 use Rattle.std.proofs.Common.{◌≡◌, ◌+◌, map, refl, subst, ◌∙◌, arith, rules}
 use Rattle.std.proofs.lemmas.Result.{err_from_is_err_and}
-use Rattle.cvm_outside.proofs.Putting.{loop_none, loop_more, loop_stop}
+use Rattle.cvm_outside.proofs.RowsPut.{loop_none, loop_more, loop_stop}
 use Rattle.cvm_outside.specs.Causes.{Rose}
 use Rattle.cvm_outside.specs.Numbering.{tally}
 use Rattle.boot_run.specs.LoadedPages.{disk_pages}

@@ -1,5 +1,5 @@
 use Rattle.std.proofs.lemmas.Result.{err_from_is_err_and}
-use Rattle.cvm_outside.proofs.Putting.{puts_both, puts_first}
+use Rattle.cvm_outside.proofs.RowsPut.{puts_both, puts_first}
 use Rattle.boot_report.specs.Texts.{end_row}
 use Rattle.boot_run.proofs.report.put_kernel.Goals as goal
 

@@ -1,8 +1,8 @@
 use Rattle.std.proofs.Common.{Some, [], ◌∷◌, ◌++◌, refl}
 use Rattle.std.proofs.lemmas.Result.{err_from_is_err_and}
 use Rattle.cvm_outside.specs.Script.{Printed}
-use Rattle.cvm_outside.proofs.Follow.{both, first}
-use Rattle.cvm_outside.proofs.Putting.{performed}
+use Rattle.cvm_outside.proofs.ScriptsFollow.{both, first}
+use Rattle.cvm_outside.proofs.RowsPut.{performed}
 use Rattle.cvm_model.specs.Text.{steps_row}
 use Rattle.boot_report.specs.Texts.{end_row}
 use Rattle.boot_run.proofs.report.put_trace_closing.Goals as goal

@@ -3,7 +3,7 @@ use Rattle.std.specs.Prelude.{slice_index}
 use Rattle.schedule_file.specs.Rows.{Rows}
 use Rattle.mips_machine.specs.Machine.{Held, state_of}
 use Rattle.mips_machine.specs.Saved.{saved, AreSaved, CanBeSaved}
-use Rattle.boot_run.proofs.TakenUp.{started_long}
+use Rattle.boot_run.proofs.TakenUpMemory.{started_long}
 use Rattle.boot_run.proofs.resuming.resumed_machine.Goals as goal
 
 pub load_state-requires : goal.load_state-requires

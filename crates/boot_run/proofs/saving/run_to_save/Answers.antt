@@ -10,8 +10,8 @@ use Rattle.boot_run.specs.LoadEnds.{pages_needed}
 use Rattle.boot_run.specs.Loaded.{boot_load}
 use Rattle.boot_run.specs.Whole.{WholeStopped}
 use Rattle.boot_run.proofs.Loads.{needed_is}
-use Rattle.boot_run.proofs.Booting.{load_refused, load_stopped}
-use Rattle.boot_run.proofs.ToSave.{saves_so}
+use Rattle.boot_run.proofs.WholeBoots.{load_refused, load_stopped}
+use Rattle.boot_run.proofs.SavedBoots.{saves_so}
 use Rattle.boot_run.specs.LoadScript.{load_script}
 use Rattle.boot_run.proofs.SaveScripts.{save_refused, save_made}
 use Rattle.boot_run.proofs.saving.run_to_save.Goals as goal

@@ -1,7 +1,7 @@
 use Rattle.std.proofs.Common.{sym, subst}
 use Rattle.boot_run.specs.RunEnds.{EndsUnsaved}
 use Rattle.boot_run.proofs.AnyEnding.{fault_unsaved}
-use Rattle.boot_run.proofs.Stopping.{stopped}
+use Rattle.boot_run.proofs.WhereSavesStop.{stopped}
 use Rattle.boot_run.specs.SaveCalls.{ToStopCalls}
 use Rattle.boot_run.proofs.SaveScripts.{stop_fails, stop_comes}
 use Rattle.boot_run.proofs.saving.run_to_stop.Goals as goal
@@ -22,10 +22,10 @@ returns-in-Err-clause-unput g c = λ is. subst EndsUnsaved is (fault_unsaved c.i
 pub returns-in-Ok-clause-script : goal.returns-in-Ok-clause-script
 returns-in-Ok-clause-script g c =
     stop_comes g.O.Sink g.D.Sectors c.args.run.now c.go.new.run c.args.out.now c.go.new.out c.stop.new.out c.args.disk.now c.go.new.disk c.stop.new.disk c.args.limits.turns c.args.limits.steps c.go.new.budget c.machines_run.ensures c.turns_are_counted.ensures c.stop.result
-    c.in-Ok.ensures.kept c.in-Ok.ensures.size c.in-Ok.ensures.ends c.in-Ok.ensures.script c.stop.ensures.script
+    c.in-Ok.ensures.kept c.in-Ok.ensures.size c.in-Ok.ensures.ends c.in-Ok.ensures.script.boots c.stop.ensures.script
 
 pub returns-in-Err-clause-script : goal.returns-in-Err-clause-script
 returns-in-Err-clause-script g c =
     subst (ToStopCalls g.O.Sink g.D.Sectors c.args.run.now c.args.limits.turns c.args.limits.steps (c.args.out.now, c.args.disk.now) (c.go.new.out, c.go.new.disk)) (sym c.end_at.ensures)
     (stop_fails {T = Unit {0}} g.O.Sink g.D.Sectors c.args.run.now c.go.new.run c.args.out.now c.go.new.out c.args.disk.now c.go.new.disk c.args.limits.turns c.args.limits.steps c.go.new.budget c.machines_run.ensures c.turns_are_counted.ensures c.in-Err.fault
-    c.in-Err.ensures.ends c.in-Err.ensures.script)
+    c.in-Err.ensures.ends c.in-Err.ensures.script.boots)

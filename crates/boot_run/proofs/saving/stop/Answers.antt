@@ -1,7 +1,7 @@
 use Rattle.std.proofs.Common.{◌≡◌, true, false, refl, sym, ap, ◌∙◌, subst}
 use Rattle.std.specs.Prelude.{is_some}
 use Rattle.boot_run.specs.RunEnds.{EndsUnsaved}
-use Rattle.boot_run.proofs.Stopping.{none_ended}
+use Rattle.boot_run.proofs.WhereSavesStop.{none_ended}
 use Rattle.boot_run.proofs.SaveScripts.{stop_closed, stop_on}
 use Rattle.boot_run.proofs.saving.stop.Goals as goal
 

@@ -1,5 +1,5 @@
 use Rattle.std.proofs.Common.{◌∙◌}
-use Rattle.cvm_outside.proofs.Putting.{puts_same}
+use Rattle.cvm_outside.proofs.RowsPut.{puts_same}
 use Rattle.boot_run.specs.TurnParts.{first_machine}
 use Rattle.boot_run.proofs.turn_rows.put_start.Goals as goal
 

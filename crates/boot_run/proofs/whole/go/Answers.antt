@@ -2,15 +2,15 @@ use Rattle.std.proofs.Common.{ℕ, ◌≡◌, ◌-◌, ◌≤◌, ◌++◌, [], 
 use Rattle.std.specs.Prelude.{IsSome}
 use Rattle.std.proofs.lemmas.Result.{err_from_is_err_and}
 use Rattle.cvm_outside.specs.Script.{done}
-use Rattle.cvm_outside.proofs.Follow.{both}
+use Rattle.cvm_outside.proofs.ScriptsFollow.{both}
 use Rattle.boot_turns.specs.declared.answers.Turn.{Turn}
 use Rattle.boot_turns.specs.LoopScripts.{SomeMake}
 use Rattle.boot_turns.proofs.SomeCalls.{of_both}
 use Rattle.boot_run.specs.AnyScripts.{TurnsUntold}
-use Rattle.boot_run.specs.TurnCalls.{Around, around}
-use Rattle.boot_run.proofs.AnyCalls.{any_first, any_next, any_failed, any_over, any_went}
+use Rattle.boot_run.specs.TurnCalls.{Around, run_around}
+use Rattle.boot_run.proofs.AnyRunCalls.{any_first, any_next, any_failed, any_over, any_went}
 use Rattle.boot_run.proofs.GoScripts.{KeepsMade, made_first, made_next, go_broke, go_came}
-use Rattle.boot_run.proofs.Looping.{keeps_first, keeps_next, go_failed, went_over, went, not_over, not_failed, was_over}
+use Rattle.boot_run.proofs.TurnLoop.{keeps_first, keeps_next, go_failed, went_over, went, not_over, not_failed, was_over}
 use Rattle.boot_run.proofs.UntoldTurns.{untold_first, untold_next, untold_came, untold_failed}
 use Rattle.boot_run.proofs.whole.go.Goals as goal
 
@@ -21,8 +21,8 @@ loop-left-init g c = record {
   size = refl;
   time = refl;
   few = omega arith;
-  going = keeps_first (g.D.Sectors.size c.args.disk.now) c.args.run.now (around c.args.run.now (g.D.Sectors.sectors c.args.disk.now) c.args.budget.now) _ (omega arith);
-  anyhow = any_first (g.D.Sectors.size c.args.disk.now) c.args.run.now (around c.args.run.now (g.D.Sectors.sectors c.args.disk.now) c.args.budget.now) _ (omega arith);
+  going = keeps_first (g.D.Sectors.size c.args.disk.now) c.args.run.now (run_around c.args.run.now (g.D.Sectors.sectors c.args.disk.now) c.args.budget.now) _ (omega arith);
+  anyhow = any_first (g.D.Sectors.size c.args.disk.now) c.args.run.now (run_around c.args.run.now (g.D.Sectors.sectors c.args.disk.now) c.args.budget.now) _ (omega arith);
   still = λ _. (refl, refl);
   made = made_first g.O.Sink g.D.Sectors c.args.run.now c.args.out.now c.args.disk.now c.args.budget.now (c.args.turns - c.args.turns) c.args.run.now.machine.time (omega arith);
   some = ([], tt, λ shelf. done _);
@@ -46,8 +46,8 @@ returns-then-made-eq0-clause-ends g c =
     let s0 = st.0 in
     let s1 = st.1 in
     let s2 = st.2 in
-    let mid : Around = around c.loop-left.run (g.D.Sectors.sectors c.loop-left.disk) c.loop-left.budget in
-    let after : Around = around c.turns.new.self (g.D.Sectors.sectors c.turns.new.disk) c.turns.new.budget in
+    let mid : Around = run_around c.loop-left.run (g.D.Sectors.sectors c.loop-left.disk) c.loop-left.budget in
+    let after : Around = run_around c.turns.new.self (g.D.Sectors.sectors c.turns.new.disk) c.turns.new.budget in
     let same : mid ≡ after = cc in
     went_over c.machines_run.ensures (g.D.Sectors.size c.args.disk.now) c.args.run.now c.args.turns _ mid after (c.args.turns - c.loop-left.left) (omega arith) over same c.loop-left.invariant.going
 
@@ -83,9 +83,9 @@ loop-left-preserved g c =
       still = λ none. absurd (omega (arith, few, most, some, none));
       made = made_next g.O.Sink g.D.Sectors c.args.run.now c.loop-left.run c.args.out.now c.loop-left.out c.turns.new.out c.args.disk.now c.loop-left.disk c.turns.new.disk c.args.budget.now c.loop-left.budget (c.args.turns - c.loop-left.left)
           c.loop-left.invariant.kept c.loop-left.invariant.size c.loop-left.invariant.going c.loop-left.invariant.made c.machines_run.ensures (c.args.turns - (c.loop-left.left - c.in_ok-made.made)) c.in_ok-made.made (omega (arith, few, most)) some on
-          (c.loop-left.budget - c.turns.new.budget) c.turns.new.self.machine.time (omega (arith, spent, less)) c.in_ok-made.ensures.script.exact;
+          (c.loop-left.budget - c.turns.new.budget) c.turns.new.self.machine.time (omega (arith, spent, less)) c.in_ok-made.ensures.script.boots.exact;
       some =
-          let more = c.in_ok-made.ensures.script.some c.loop-left.invariant.fault in (
+          let more = c.in_ok-made.ensures.script.boots.some c.loop-left.invariant.fault in (
             c.loop-left.invariant.some.0 ++ more.0,
             of_both c.loop-left.invariant.some.0 more.0 c.loop-left.invariant.some.1 more.1,
             λ shelf. both c.loop-left.invariant.some.0 more.0 _ _ _ None (c.loop-left.invariant.some.2 shelf) (more.2 shelf),
@@ -94,7 +94,7 @@ loop-left-preserved g c =
       untraced = λ e. c.turns.ensures.untraced (c.loop-left.invariant.untraced e);
       untold = untold_next g.O.Sink g.D.Sectors c.args.run.now c.loop-left.run c.args.out.now c.loop-left.out c.turns.new.out c.args.disk.now c.loop-left.disk c.turns.new.disk c.args.budget.now c.loop-left.budget (c.args.turns - c.loop-left.left)
           c.loop-left.invariant.kept c.loop-left.invariant.size c.loop-left.invariant.less c.loop-left.invariant.untraced on c.loop-left.invariant.fault c.loop-left.invariant.anyhow c.loop-left.invariant.untold {T = Unit {0}}
-          (c.loop-left.budget - c.turns.new.budget) (c.args.budget.now - c.turns.new.budget) (Ok tt) (omega (arith, less, was_less)) c.in_ok-made.ensures.untold;
+          (c.loop-left.budget - c.turns.new.budget) (c.args.budget.now - c.turns.new.budget) (Ok tt) (omega (arith, less, was_less)) c.in_ok-made.ensures.script.untold;
     }
 
 pub returns-clause-ends : goal.returns-clause-ends
@@ -118,8 +118,8 @@ returns-then-made-eq0-clause-any g c =
     let s0 = st.0 in
     let s1 = st.1 in
     let s2 = st.2 in
-    let mid : Around = around c.loop-left.run (g.D.Sectors.sectors c.loop-left.disk) c.loop-left.budget in
-    let after : Around = around c.turns.new.self (g.D.Sectors.sectors c.turns.new.disk) c.turns.new.budget in
+    let mid : Around = run_around c.loop-left.run (g.D.Sectors.sectors c.loop-left.disk) c.loop-left.budget in
+    let after : Around = run_around c.turns.new.self (g.D.Sectors.sectors c.turns.new.disk) c.turns.new.budget in
     let same : mid ≡ after = cc in
     any_over (g.D.Sectors.size c.args.disk.now) c.args.run.now c.args.turns _ mid after (c.args.turns - c.loop-left.left) (omega arith) over same c.loop-left.invariant.anyhow
 
@@ -130,64 +130,57 @@ returns-clause-any g c =
 
 -- each exit's script
 pub returns-in_err-made-clause-script : goal.returns-in_err-made-clause-script
-returns-in_err-made-clause-script g c =
-    let w = err_from_is_err_and c.from_residual.result c.from_residual.ensures.1 in
-    let on = not_failed c.loop-left.run.ended c.in_err-made.field-0.0 (λ o. c.in_err-made.ensures.says.leaves.over c.loop-left.invariant.fault o) in
-    let few = c.loop-left.invariant.few in
-    let spent = c.in_err-made.ensures.says.leaves.spent in
-    let less = c.turns.ensures.less in
-    rw (w.1, w.2) (go_broke g.O.Sink g.D.Sectors c.args.run.now c.loop-left.run c.turns.new.self c.args.out.now c.loop-left.out c.turns.new.out c.args.disk.now c.loop-left.disk c.turns.new.disk c.args.budget.now c.loop-left.budget c.turns.new.budget (c.args.turns - c.loop-left.left) c.args.turns
-    c.loop-left.invariant.kept c.loop-left.invariant.size c.machines_run.ensures c.turns_are_counted.ensures c.loop-left.invariant.going c.loop-left.invariant.made c.loop-left.invariant.some c.loop-left.invariant.fault {R = ℕ × Turn} {T = Unit {0}} c.in_err-made.field-0.0 c.loop-left.left
-    (omega (arith, few)) on (c.in_err-made.ensures.says.ends c.loop-left.invariant.fault on) (c.loop-left.budget - c.turns.new.budget) (omega (arith, spent, less)) c.in_err-made.ensures.script)
+returns-in_err-made-clause-script g c = record {
+  boots = let w = err_from_is_err_and c.from_residual.result c.from_residual.ensures.1 in
+      let on = not_failed c.loop-left.run.ended c.in_err-made.field-0.0 (λ o. c.in_err-made.ensures.says.leaves.over c.loop-left.invariant.fault o) in
+      let few = c.loop-left.invariant.few in
+      let spent = c.in_err-made.ensures.says.leaves.spent in
+      let less = c.turns.ensures.less in
+      rw (w.1, w.2) (go_broke g.O.Sink g.D.Sectors c.args.run.now c.loop-left.run c.turns.new.self c.args.out.now c.loop-left.out c.turns.new.out c.args.disk.now c.loop-left.disk c.turns.new.disk c.args.budget.now c.loop-left.budget c.turns.new.budget (c.args.turns - c.loop-left.left) c.args.turns
+      c.loop-left.invariant.kept c.loop-left.invariant.size c.machines_run.ensures c.turns_are_counted.ensures c.loop-left.invariant.going c.loop-left.invariant.made c.loop-left.invariant.some c.loop-left.invariant.fault {R = ℕ × Turn} {T = Unit {0}} c.in_err-made.field-0.0 c.loop-left.left
+      (omega (arith, few)) on (c.in_err-made.ensures.says.ends c.loop-left.invariant.fault on) (c.loop-left.budget - c.turns.new.budget) (omega (arith, spent, less)) c.in_err-made.ensures.script.boots);
+  untold = let w = err_from_is_err_and c.from_residual.result c.from_residual.ensures.1 in
+      let on = not_failed c.loop-left.run.ended c.in_err-made.field-0.0 (λ o. c.in_err-made.ensures.says.leaves.over c.loop-left.invariant.fault o) in
+      let few = c.loop-left.invariant.few in
+      let less = c.turns.ensures.less in
+      let was_less = c.loop-left.invariant.less in
+      let before : Around = run_around c.args.run.now (g.D.Sectors.sectors c.args.disk.now) c.args.budget.now in
+      let mid : Around = run_around c.loop-left.run (g.D.Sectors.sectors c.loop-left.disk) c.loop-left.budget in
+      let after : Around = run_around c.turns.new.self (g.D.Sectors.sectors c.turns.new.disk) c.turns.new.budget in
+      rw (w.1, w.2) (untold_failed g.O.Sink g.D.Sectors c.args.run.now c.turns.new.self c.args.out.now c.turns.new.out c.args.disk.now c.turns.new.disk c.args.budget.now c.turns.new.budget c.args.turns c.turns_are_counted.ensures (omega (arith, less, was_less))
+      (Unit {0}) c.in_err-made.field-0.0
+      (untold_next g.O.Sink g.D.Sectors c.args.run.now c.loop-left.run c.args.out.now c.loop-left.out c.turns.new.out c.args.disk.now c.loop-left.disk c.turns.new.disk c.args.budget.now c.loop-left.budget (c.args.turns - c.loop-left.left)
+      c.loop-left.invariant.kept c.loop-left.invariant.size c.loop-left.invariant.less c.loop-left.invariant.untraced on c.loop-left.invariant.fault c.loop-left.invariant.anyhow c.loop-left.invariant.untold {T = Unit {0}}
+      (c.loop-left.budget - c.turns.new.budget) (c.args.budget.now - c.turns.new.budget) (Err c.in_err-made.field-0.0) (omega (arith, less, was_less)) c.in_err-made.ensures.script.untold)
+      (any_failed (g.D.Sectors.size c.args.disk.now) (g.D.Sectors.size c.loop-left.disk) c.args.run.now c.loop-left.run c.loop-left.invariant.kept c.loop-left.invariant.size before mid after
+      (c.args.turns - c.loop-left.left) c.loop-left.left on c.loop-left.invariant.anyhow
+      c.args.turns c.in_err-made.field-0.0 c.in_err-made.field-0.0 (Err c.in_err-made.field-0.0) (c.in_err-made.ensures.says.any c.loop-left.invariant.fault on) (omega (arith, few)) refl refl));
+}
 
 pub returns-then-made-eq0-clause-script : goal.returns-then-made-eq0-clause-script
-returns-then-made-eq0-clause-script g c =
-    let over : IsSome c.loop-left.run.ended = was_over c.loop-left.run.ended c.in_ok-made.made c.in_ok-made.ensures.says.leaves.made.1 c.if-made-eq0.true in
-    let st = c.in_ok-made.ensures.says.leaves.still (inr over) in
-    let so : KeepsMade g.O.Sink g.D.Sectors c.args.run.now c.args.out.now c.args.disk.now c.turns.new.out c.turns.new.disk c.args.budget.now (c.args.turns - c.loop-left.left) c.turns.new.self.machine.time =
-    rw (st.0, st.2, st.3) c.loop-left.invariant.made in
-    let some : SomeMake {T = Unit {0}} g.O.Sink g.D.Sectors (c.args.out.now, c.args.disk.now) (c.turns.new.out, c.turns.new.disk) (Ok tt) = rw (st.2, st.3) c.loop-left.invariant.some in
-    go_came g.O.Sink g.D.Sectors c.args.run.now c.turns.new.self c.args.out.now c.turns.new.out c.args.disk.now c.turns.new.disk c.args.budget.now c.turns.new.budget (c.args.turns - c.loop-left.left) c.args.turns c.machines_run.ensures c.turns_are_counted.ensures so some
-    (returns-then-made-eq0-clause-ends g c) (λ none. inr (subst IsSome (c.loop-left.invariant.still none).1 over))
+returns-then-made-eq0-clause-script g c = record {
+  boots = let over : IsSome c.loop-left.run.ended = was_over c.loop-left.run.ended c.in_ok-made.made c.in_ok-made.ensures.says.leaves.made.1 c.if-made-eq0.true in
+      let st = c.in_ok-made.ensures.says.leaves.still (inr over) in
+      let so : KeepsMade g.O.Sink g.D.Sectors c.args.run.now c.args.out.now c.args.disk.now c.turns.new.out c.turns.new.disk c.args.budget.now (c.args.turns - c.loop-left.left) c.turns.new.self.machine.time =
+      rw (st.0, st.2, st.3) c.loop-left.invariant.made in
+      let some : SomeMake {T = Unit {0}} g.O.Sink g.D.Sectors (c.args.out.now, c.args.disk.now) (c.turns.new.out, c.turns.new.disk) (Ok tt) = rw (st.2, st.3) c.loop-left.invariant.some in
+      go_came g.O.Sink g.D.Sectors c.args.run.now c.turns.new.self c.args.out.now c.turns.new.out c.args.disk.now c.turns.new.disk c.args.budget.now c.turns.new.budget (c.args.turns - c.loop-left.left) c.args.turns c.machines_run.ensures c.turns_are_counted.ensures so some
+      (returns-then-made-eq0-clause-ends g c) (λ none. inr (subst IsSome (c.loop-left.invariant.still none).1 over));
+  untold = let over : IsSome c.loop-left.run.ended = was_over c.loop-left.run.ended c.in_ok-made.made c.in_ok-made.ensures.says.leaves.made.1 c.if-made-eq0.true in
+      let st = c.in_ok-made.ensures.says.leaves.still (inr over) in
+      let less = c.turns.ensures.less in
+      let was_less = c.loop-left.invariant.less in
+      let so : TurnsUntold {T = Unit {0}} g.O.Sink g.D.Sectors c.args.run.now (c.args.out.now, c.args.disk.now) (c.turns.new.out, c.turns.new.disk) (c.args.budget.now - c.turns.new.budget) (Ok tt) =
+      rw (st.1, st.2, st.3) c.loop-left.invariant.untold in
+      untold_came g.O.Sink g.D.Sectors c.args.run.now c.turns.new.self c.args.out.now c.turns.new.out c.args.disk.now c.turns.new.disk c.args.budget.now c.turns.new.budget c.args.turns c.turns_are_counted.ensures (omega (arith, less, was_less)) so
+      (returns-then-made-eq0-clause-any g c);
+}
 
 pub returns-clause-script : goal.returns-clause-script
-returns-clause-script g c =
-    let none = c.loop-left-test.false in
-    go_came g.O.Sink g.D.Sectors c.args.run.now c.loop-left.run c.args.out.now c.loop-left.out c.args.disk.now c.loop-left.disk c.args.budget.now c.loop-left.budget (c.args.turns - c.loop-left.left) c.args.turns c.machines_run.ensures c.turns_are_counted.ensures
-    c.loop-left.invariant.made c.loop-left.invariant.some (returns-clause-ends g c) (λ zero. inl (omega (arith, zero, none), (c.loop-left.invariant.still zero).0))
-
--- of any run
-pub returns-in_err-made-clause-untold : goal.returns-in_err-made-clause-untold
-returns-in_err-made-clause-untold g c =
-    let w = err_from_is_err_and c.from_residual.result c.from_residual.ensures.1 in
-    let on = not_failed c.loop-left.run.ended c.in_err-made.field-0.0 (λ o. c.in_err-made.ensures.says.leaves.over c.loop-left.invariant.fault o) in
-    let few = c.loop-left.invariant.few in
-    let less = c.turns.ensures.less in
-    let was_less = c.loop-left.invariant.less in
-    let before : Around = around c.args.run.now (g.D.Sectors.sectors c.args.disk.now) c.args.budget.now in
-    let mid : Around = around c.loop-left.run (g.D.Sectors.sectors c.loop-left.disk) c.loop-left.budget in
-    let after : Around = around c.turns.new.self (g.D.Sectors.sectors c.turns.new.disk) c.turns.new.budget in
-    rw (w.1, w.2) (untold_failed g.O.Sink g.D.Sectors c.args.run.now c.turns.new.self c.args.out.now c.turns.new.out c.args.disk.now c.turns.new.disk c.args.budget.now c.turns.new.budget c.args.turns c.turns_are_counted.ensures (omega (arith, less, was_less))
-    (Unit {0}) c.in_err-made.field-0.0
-    (untold_next g.O.Sink g.D.Sectors c.args.run.now c.loop-left.run c.args.out.now c.loop-left.out c.turns.new.out c.args.disk.now c.loop-left.disk c.turns.new.disk c.args.budget.now c.loop-left.budget (c.args.turns - c.loop-left.left)
-    c.loop-left.invariant.kept c.loop-left.invariant.size c.loop-left.invariant.less c.loop-left.invariant.untraced on c.loop-left.invariant.fault c.loop-left.invariant.anyhow c.loop-left.invariant.untold {T = Unit {0}}
-    (c.loop-left.budget - c.turns.new.budget) (c.args.budget.now - c.turns.new.budget) (Err c.in_err-made.field-0.0) (omega (arith, less, was_less)) c.in_err-made.ensures.untold)
-    (any_failed (g.D.Sectors.size c.args.disk.now) (g.D.Sectors.size c.loop-left.disk) c.args.run.now c.loop-left.run c.loop-left.invariant.kept c.loop-left.invariant.size before mid after
-    (c.args.turns - c.loop-left.left) c.loop-left.left on c.loop-left.invariant.anyhow
-    c.args.turns c.in_err-made.field-0.0 c.in_err-made.field-0.0 (Err c.in_err-made.field-0.0) (c.in_err-made.ensures.says.any c.loop-left.invariant.fault on) (omega (arith, few)) refl refl))
-
-pub returns-then-made-eq0-clause-untold : goal.returns-then-made-eq0-clause-untold
-returns-then-made-eq0-clause-untold g c =
-    let over : IsSome c.loop-left.run.ended = was_over c.loop-left.run.ended c.in_ok-made.made c.in_ok-made.ensures.says.leaves.made.1 c.if-made-eq0.true in
-    let st = c.in_ok-made.ensures.says.leaves.still (inr over) in
-    let less = c.turns.ensures.less in
-    let was_less = c.loop-left.invariant.less in
-    let so : TurnsUntold {T = Unit {0}} g.O.Sink g.D.Sectors c.args.run.now (c.args.out.now, c.args.disk.now) (c.turns.new.out, c.turns.new.disk) (c.args.budget.now - c.turns.new.budget) (Ok tt) =
-    rw (st.1, st.2, st.3) c.loop-left.invariant.untold in
-    untold_came g.O.Sink g.D.Sectors c.args.run.now c.turns.new.self c.args.out.now c.turns.new.out c.args.disk.now c.turns.new.disk c.args.budget.now c.turns.new.budget c.args.turns c.turns_are_counted.ensures (omega (arith, less, was_less)) so
-    (returns-then-made-eq0-clause-any g c)
-
-pub returns-clause-untold : goal.returns-clause-untold
-returns-clause-untold g c =
-    untold_came g.O.Sink g.D.Sectors c.args.run.now c.loop-left.run c.args.out.now c.loop-left.out c.args.disk.now c.loop-left.disk c.args.budget.now c.loop-left.budget c.args.turns c.turns_are_counted.ensures c.loop-left.invariant.less
-    c.loop-left.invariant.untold (returns-clause-any g c)
+returns-clause-script g c = record {
+  boots = let none = c.loop-left-test.false in
+      go_came g.O.Sink g.D.Sectors c.args.run.now c.loop-left.run c.args.out.now c.loop-left.out c.args.disk.now c.loop-left.disk c.args.budget.now c.loop-left.budget (c.args.turns - c.loop-left.left) c.args.turns c.machines_run.ensures c.turns_are_counted.ensures
+      c.loop-left.invariant.made c.loop-left.invariant.some (returns-clause-ends g c) (λ zero. inl (omega (arith, zero, none), (c.loop-left.invariant.still zero).0));
+  untold = untold_came g.O.Sink g.D.Sectors c.args.run.now c.loop-left.run c.args.out.now c.loop-left.out c.args.disk.now c.loop-left.disk c.args.budget.now c.loop-left.budget c.args.turns c.turns_are_counted.ensures c.loop-left.invariant.less
+      c.loop-left.invariant.untold (returns-clause-any g c);
+}

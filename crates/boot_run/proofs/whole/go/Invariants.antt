@@ -1,10 +1,10 @@
 use Rattle.std.proofs.Common.{◌≡◌, ◌+◌, ◌-◌, ◌≤◌, None, Ok}
 use Rattle.boot_turns.specs.LoopScripts.{SomeMake}
 use Rattle.boot_run.specs.AnyScripts.{TurnsUntold}
-use Rattle.boot_run.specs.TurnCalls.{around, KeepsLoad}
-use Rattle.boot_run.proofs.AnyCalls.{AnyGoing}
+use Rattle.boot_run.specs.TurnCalls.{run_around, KeepsLoad}
+use Rattle.boot_run.proofs.AnyRunCalls.{AnyGoing}
 use Rattle.boot_run.proofs.GoScripts.{KeepsMade}
-use Rattle.boot_run.proofs.Looping.{KeepsGoing}
+use Rattle.boot_run.proofs.TurnLoop.{KeepsGoing}
 use Rattle.boot_run.proofs.whole.go.Given as goal
 
 abbrev pub invariant-loop-left : goal.invariant-loop-left
@@ -14,10 +14,10 @@ invariant-loop-left g l = record {
   size : g.D.Sectors.size l.disk ≡ g.D.Sectors.size l.fn.disk;
   time : l.run.machine.time + l.budget ≡ l.fn.run.machine.time + l.fn.budget;
   few : l.left ≤ l.fn.turns;
-  going : KeepsGoing (g.D.Sectors.size l.fn.disk) l.fn.run (around l.fn.run (g.D.Sectors.sectors l.fn.disk) l.fn.budget) (l.fn.turns - l.left)
-      (around l.run (g.D.Sectors.sectors l.disk) l.budget);
-  anyhow : AnyGoing (g.D.Sectors.size l.fn.disk) l.fn.run (around l.fn.run (g.D.Sectors.sectors l.fn.disk) l.fn.budget) (l.fn.turns - l.left)
-      (around l.run (g.D.Sectors.sectors l.disk) l.budget);
+  going : KeepsGoing (g.D.Sectors.size l.fn.disk) l.fn.run (run_around l.fn.run (g.D.Sectors.sectors l.fn.disk) l.fn.budget) (l.fn.turns - l.left)
+      (run_around l.run (g.D.Sectors.sectors l.disk) l.budget);
+  anyhow : AnyGoing (g.D.Sectors.size l.fn.disk) l.fn.run (run_around l.fn.run (g.D.Sectors.sectors l.fn.disk) l.fn.budget) (l.fn.turns - l.left)
+      (run_around l.run (g.D.Sectors.sectors l.disk) l.budget);
   still : l.fn.turns - l.left ≡ 0 → (l.run.machine.time ≡ l.fn.run.machine.time) × (l.run.ended ≡ l.fn.run.ended);
   made : KeepsMade g.O.Sink g.D.Sectors l.fn.run l.fn.out l.fn.disk l.out l.disk l.fn.budget (l.fn.turns - l.left) l.run.machine.time;
   some : SomeMake {T = Unit {0}} g.O.Sink g.D.Sectors (l.fn.out, l.fn.disk) (l.out, l.disk) (Ok tt);

@@ -8,7 +8,7 @@ use Rattle.boot_run.specs.LoadEnds.{rom_needed}
 use Rattle.boot_run.specs.Loaded.{rom_load}
 use Rattle.boot_run.specs.Whole.{RomStopped, rom_start_of}
 use Rattle.boot_run.proofs.RomLoads.{rom_needed_is}
-use Rattle.boot_run.proofs.Booting.{load_refused, load_stopped}
+use Rattle.boot_run.proofs.WholeBoots.{load_refused, load_stopped}
 use Rattle.boot_run.specs.LoadScript.{load_script}
 use Rattle.boot_run.proofs.WholeScripts.{whole_refused, whole_made}
 use Rattle.boot_run.proofs.whole.run_rom.Goals as goal
@@ -41,4 +41,4 @@ returns-clause-script g c =
     (load_script (rom_pages (system_of c.args.setup.boot c.args.setup.schedule)) (rom_needed c.args.setup.boot)) c.args.out.now c.run_to_end.new.out c.args.disk.now c.load_own_rom.new.disk c.run_to_end.new.disk c.in_ok-run.run' c.run_to_end.result
     c.in_ok-run.ensures.loaded.fresh c.in_ok-run.ensures.leaves.same_size c.requires.some (λ old is. let p = c.premises_hold.ensures.rom old is c.in_ok-run.ensures.loaded.fresh.has_room.room in (p.late, p.bootable))
     c.in_ok-run.ensures.loaded.ready
-    c.in_ok-run.ensures.script c.run_to_end.ensures.script
+    c.in_ok-run.ensures.script c.run_to_end.ensures.script.boots

@@ -11,24 +11,19 @@ returns-in-Err-clause-ends g c = fault_unsaved c.in-Err.fault c.end_at.result c.
 
 -- the calls
 pub returns-in-Ok-clause-script : goal.returns-in-Ok-clause-script
-returns-in-Ok-clause-script g c =
-    rest_closes g.O.Sink g.D.Sectors c.args.run.now c.go.new.run c.args.out.now c.go.new.out c.close.new.out c.args.disk.now c.go.new.disk c.close.new.disk c.args.limits.turns c.args.limits.steps c.go.new.budget c.machines_run.ensures c.turns_are_counted.ensures c.close.result
-    c.in-Ok.ensures.kept c.in-Ok.ensures.size c.in-Ok.ensures.ends c.in-Ok.ensures.script c.close.ensures.script
+returns-in-Ok-clause-script g c = record {
+  boots = rest_closes g.O.Sink g.D.Sectors c.args.run.now c.go.new.run c.args.out.now c.go.new.out c.close.new.out c.args.disk.now c.go.new.disk c.close.new.disk c.args.limits.turns c.args.limits.steps c.go.new.budget c.machines_run.ensures c.turns_are_counted.ensures c.close.result
+      c.in-Ok.ensures.kept c.in-Ok.ensures.size c.in-Ok.ensures.ends c.in-Ok.ensures.script.boots c.close.ensures.script;
+  untold = rest_closed g.O.Sink g.D.Sectors c.args.run.now c.go.new.run c.args.out.now c.go.new.out c.close.new.out c.args.disk.now c.go.new.disk c.close.new.disk c.args.limits.turns c.args.limits.steps c.go.new.budget c.turns_are_counted.ensures c.close.result
+      c.in-Ok.ensures.any c.in-Ok.ensures.script.untold c.close.ensures.script c.close.ensures.faulted c.close.ensures.in_steps c.close.ensures.ends;
+}
 
 pub returns-in-Err-clause-script : goal.returns-in-Err-clause-script
-returns-in-Err-clause-script g c =
-    subst (RestCalls g.O.Sink g.D.Sectors c.args.run.now c.args.limits.turns c.args.limits.steps (c.args.out.now, c.args.disk.now) (c.go.new.out, c.go.new.disk)) (sym c.end_at.ensures)
-    (rest_fails {T = Unit {0}} g.O.Sink g.D.Sectors c.args.run.now c.go.new.run c.args.out.now c.go.new.out c.args.disk.now c.go.new.disk c.args.limits.turns c.args.limits.steps c.go.new.budget c.machines_run.ensures c.turns_are_counted.ensures c.in-Err.fault
-    c.in-Err.ensures.ends c.in-Err.ensures.script)
-
--- of any run
-pub returns-in-Ok-clause-untold : goal.returns-in-Ok-clause-untold
-returns-in-Ok-clause-untold g c =
-    rest_closed g.O.Sink g.D.Sectors c.args.run.now c.go.new.run c.args.out.now c.go.new.out c.close.new.out c.args.disk.now c.go.new.disk c.close.new.disk c.args.limits.turns c.args.limits.steps c.go.new.budget c.turns_are_counted.ensures c.close.result
-    c.in-Ok.ensures.any c.in-Ok.ensures.untold c.close.ensures.script c.close.ensures.faulted c.close.ensures.in_steps c.close.ensures.ends
-
-pub returns-in-Err-clause-untold : goal.returns-in-Err-clause-untold
-returns-in-Err-clause-untold g c =
-    subst (RestUntold g.O.Sink g.D.Sectors c.args.run.now c.args.limits.turns c.args.limits.steps (c.args.out.now, c.args.disk.now) (c.go.new.out, c.go.new.disk)) (sym c.end_at.ensures)
-    (rest_broken (Unit {0}) g.O.Sink g.D.Sectors c.args.run.now c.go.new.run c.args.out.now c.go.new.out c.args.disk.now c.go.new.disk c.args.limits.turns c.args.limits.steps c.go.new.budget c.turns_are_counted.ensures c.in-Err.fault
-    c.in-Err.ensures.any c.in-Err.ensures.untold)
+returns-in-Err-clause-script g c = record {
+  boots = subst (RestCalls g.O.Sink g.D.Sectors c.args.run.now c.args.limits.turns c.args.limits.steps (c.args.out.now, c.args.disk.now) (c.go.new.out, c.go.new.disk)) (sym c.end_at.ensures)
+      (rest_fails {T = Unit {0}} g.O.Sink g.D.Sectors c.args.run.now c.go.new.run c.args.out.now c.go.new.out c.args.disk.now c.go.new.disk c.args.limits.turns c.args.limits.steps c.go.new.budget c.machines_run.ensures c.turns_are_counted.ensures c.in-Err.fault
+      c.in-Err.ensures.ends c.in-Err.ensures.script.boots);
+  untold = subst (RestUntold g.O.Sink g.D.Sectors c.args.run.now c.args.limits.turns c.args.limits.steps (c.args.out.now, c.args.disk.now) (c.go.new.out, c.go.new.disk)) (sym c.end_at.ensures)
+      (rest_broken (Unit {0}) g.O.Sink g.D.Sectors c.args.run.now c.go.new.run c.args.out.now c.go.new.out c.args.disk.now c.go.new.disk c.args.limits.turns c.args.limits.steps c.go.new.budget c.turns_are_counted.ensures c.in-Err.fault
+      c.in-Err.ensures.any c.in-Err.ensures.script.untold);
+}

@@ -9,7 +9,7 @@ use Rattle.boot_run.specs.LoadEnds.{pages_needed}
 use Rattle.boot_run.specs.Loaded.{boot_load}
 use Rattle.boot_run.specs.Whole.{WholeStopped}
 use Rattle.boot_run.proofs.Loads.{needed_is}
-use Rattle.boot_run.proofs.Booting.{load_refused, load_stopped}
+use Rattle.boot_run.proofs.WholeBoots.{load_refused, load_stopped}
 use Rattle.boot_run.specs.LoadScript.{load_script}
 use Rattle.boot_run.proofs.WholeScripts.{whole_refused, whole_made}
 use Rattle.boot_run.proofs.whole.run_whole.Goals as goal
@@ -41,4 +41,4 @@ returns-clause-script g c =
     whole_made g.O.Sink g.D.Sectors c.args.setup.layer c.args.setup.boot c.args.setup.schedule (loaded (system_of c.args.setup.boot c.args.setup.schedule)) (user_sectors (system_of c.args.setup.boot c.args.setup.schedule)) (pages_needed c.args.setup.boot) c.args.view c.args.limits.turns c.args.limits.steps
     (load_script (user_pages (system_of c.args.setup.boot c.args.setup.schedule)) (pages_needed c.args.setup.boot)) c.args.out.now c.run_to_end.new.out c.args.disk.now c.load.new.disk c.run_to_end.new.disk c.in_ok-run.run' c.run_to_end.result
     c.in_ok-run.ensures.loaded.fresh c.in_ok-run.ensures.leaves.same_size c.requires.some (λ old is. (1, c.premises_hold.ensures.loaded old is c.in_ok-run.ensures.loaded.fresh.has_room.room)) c.in_ok-run.ensures.loaded.ready
-    c.in_ok-run.ensures.script c.run_to_end.ensures.script
+    c.in_ok-run.ensures.script c.run_to_end.ensures.script.boots

@@ -11,12 +11,12 @@ use Rattle.mips_machine.specs.Steps.{outside_of}
 use Rattle.boot_turns.specs.declared.completion.Stepped.{Stepped}
 use Rattle.boot_turns.specs.declared.completion.Stepped.TheVariants.{Kept}
 use Rattle.boot_turns.specs.declared.tracer.Tracer.{Tracer}
-use Rattle.boot_turns.proofs.Events.{told_as_some}
-use Rattle.boot_turns.proofs.Stepping.{off_rests}
+use Rattle.boot_turns.proofs.StepEvents.{told_as_some}
+use Rattle.boot_turns.proofs.MasksAndTimes.{off_rests}
 use Rattle.boot_turns.specs.declared.completion.Begun.{Begun}
 use Rattle.boot_turns.specs.declared.answers.RunFault.{RunFault}
 use Rattle.mips_table.specs.Turns.{rests}
-use Rattle.boot_turns.specs.Completes.{state_seen, PassesQuietly, Skips, Open, Progress, turn_began, KeptUser, StepBegan}
+use Rattle.boot_turns.specs.Completes.{state_seen, PassesQuietly, SkipsTurns, Open, Progress, turn_began, KeptUser, StepBegan}
 use Rattle.boot_turns.specs.Tracing.{Tracing, CanTrace, tracer_at, tracing}
 use Rattle.layer_map.specs.Map.{Map}
 use Rattle.mips_table.specs.Fits.{NamesSector}
@@ -24,7 +24,7 @@ use Rattle.boot_turns.proofs.QuietStretches.{progress_passed}
 use Rattle.boot_turns.proofs.LoopSteps.{seen_more, one_step, left_at, step_stops, skips_more, skips_passed, Opened, seen_rests, seen_note}
 use Rattle.boot_turns.proofs.StepMakes.{no_steps, as_made, stretch_then, at_made, one_more}
 use Rattle.boot_turns.specs.LoopScripts.{StepsCall}
-use Rattle.boot_turns.proofs.Tracking.{Tracks, tracks_none, tracks_limit, tracks_whole, tracks_more, tracks_stop}
+use Rattle.boot_turns.proofs.TraceLoops.{Tracks, tracks_none, tracks_limit, tracks_whole, tracks_more, tracks_stop}
 use Rattle.boot_turns.proofs.completion.complete.Given.{Over}
 use Rattle.boot_turns.proofs.completion.complete.Goals.{In_ok-stepped, After-note}
 use Rattle.boot_turns.proofs.completion.complete.Goals as goal
@@ -325,7 +325,7 @@ can_pass m words time words2 time2 count n (Some k) e f h = record {
 }
 
 -- the machine was on at each step of turns that were passed
-on_passed : (x : Environment) (s : State) (t u n : ℕ) → u ≡ t + n → Skips x s t n → (run x s t).off ≡ None → (j : ℕ) → t ≤ j → j < u → (run x s j).off ≡ None
+on_passed : (x : Environment) (s : State) (t u n : ℕ) → u ≡ t + n → SkipsTurns x s t n → (run x s t).off ≡ None → (j : ℕ) → t ≤ j → j < u → (run x s j).off ≡ None
 on_passed x s t u n at skips on j a b = ⊎_elim
     (λ (lt : t < j). let i : ℕ = j - t - 1 in let e : t + suc (j - t - 1) ≡ j = omega (arith, lt) in subst (λ k. (run x s k).off ≡ None) e (skips (j - t - 1) (omega (arith, at, b, lt))).2)
     (λ (le : j ≤ t). let e : t ≡ j = omega (arith, a, le) in subst (λ k. (run x s k).off ≡ None) e on)

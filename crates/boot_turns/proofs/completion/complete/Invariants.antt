@@ -4,10 +4,10 @@ use Rattle.std.specs.Option.{option_map}
 use Rattle.mips_table.specs.Fits.{NamesSector}
 use Rattle.mips_table.specs.Machine.{State, run}
 use Rattle.mips_machine.specs.Steps.{outside_of}
-use Rattle.boot_turns.specs.Completes.{state_seen, Progress, Skips}
+use Rattle.boot_turns.specs.Completes.{state_seen, Progress, SkipsTurns}
 use Rattle.boot_turns.specs.Tracing.{CanTrace}
 use Rattle.boot_turns.specs.LoopScripts.{StepsCall}
-use Rattle.boot_turns.proofs.Tracking.{Tracks}
+use Rattle.boot_turns.proofs.TraceLoops.{Tracks}
 use Rattle.boot_turns.proofs.completion.complete.Given as goal
 
 abbrev pub invariant-loop-begun : goal.invariant-loop-begun
@@ -22,7 +22,7 @@ invariant-loop-begun g l = record {
   fresh : l.skipped < l.limit → l.begun ≡ None;
   ran : (s : State) (t : ℕ) → state_seen (g.D.Sectors.sectors l.fn.disk) l.fn.machine ≡ Some (run (outside_of l.fn.machine.rows (g.D.Sectors.size l.fn.disk)) s t) →
       (u : ℕ) × (t + l.skipped ≤ u) × (l.budget + u ≡ l.fn.budget + t) × (state_seen (g.D.Sectors.sectors l.disk) l.machine ≡ Some (run (outside_of l.fn.machine.rows (g.D.Sectors.size l.fn.disk)) s u))
-      × Progress (outside_of l.fn.machine.rows (g.D.Sectors.size l.fn.disk)) s (t + l.skipped) u l.begun × Skips (outside_of l.fn.machine.rows (g.D.Sectors.size l.fn.disk)) s t l.skipped
+      × Progress (outside_of l.fn.machine.rows (g.D.Sectors.size l.fn.disk)) s (t + l.skipped) u l.begun × SkipsTurns (outside_of l.fn.machine.rows (g.D.Sectors.size l.fn.disk)) s t l.skipped
       × (l.skipped < l.limit → u ≡ t + l.skipped)
       × ((j : ℕ) → t ≤ j → j < u → (run (outside_of l.fn.machine.rows (g.D.Sectors.size l.fn.disk)) s j).off ≡ None);
   can : IfSome l.tracer (CanTrace l.map (length l.machine.hardware.memory) l.machine.time (g.D.Sectors.size l.disk));

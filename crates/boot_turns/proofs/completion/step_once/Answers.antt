@@ -1,7 +1,7 @@
 use Rattle.std.proofs.Common.{◌≡◌, Bool, true, false, slice_index, refl, sym, ap, ◌∙◌, subst, eq-eqb, ne_eqb, rules}
 use Rattle.std.specs.Prelude.{◌==◌}
 use Rattle.boot_turns.specs.Completes.{turn_began, stepped_as, StepBegan}
-use Rattle.boot_turns.proofs.Events.{event_told, event_told_at, user_begins, untaken_begins, steps_reset, steps_on, steps_seen, steps_time, fails_time, fails_left}
+use Rattle.boot_turns.proofs.StepEvents.{event_told, event_told_at, user_begins, untaken_begins, steps_reset, steps_on, steps_seen, steps_time, fails_time, fails_left}
 use Rattle.std.proofs.lemmas.Result.{err_from_is_err_and}
 use Rattle.boot_turns.proofs.completion.step_once.Goals as goal
 

@@ -3,8 +3,8 @@ use Rattle.std.specs.Prelude.{IfSome}
 use Rattle.boot_turns.specs.declared.completion.Stepped.{Stepped}
 use Rattle.boot_turns.specs.declared.completion.Stepped.TheVariants.{Kept}
 use Rattle.boot_turns.specs.Completes.{state_seen, KeptUser, StepBegan, turn_began}
-use Rattle.boot_turns.proofs.Counted.{step_counted}
-use Rattle.boot_turns.proofs.Events.{ran_left}
+use Rattle.boot_turns.proofs.CountedSteps.{step_counted}
+use Rattle.boot_turns.proofs.StepEvents.{ran_left}
 use Rattle.boot_turns.proofs.StepMakes.{step_broken, step_plain, step_follows, step_counts}
 use Rattle.cvm_outside.specs.Outside.{output}
 use Rattle.std.proofs.lemmas.Result.{err_from_is_err_and}
@@ -12,7 +12,7 @@ use Rattle.mips_machine.specs.Steps.{outside_of}
 use Rattle.boot_turns.specs.declared.tracer.Tracer.{Tracer}
 use Rattle.boot_turns.specs.declared.answers.RunFault.{RunFault}
 use Rattle.boot_turns.specs.declared.answers.RunFault.TheVariants.{Disk, Sink}
-use Rattle.boot_turns.proofs.Tracking.{step_broke, step_cut, step_goes}
+use Rattle.boot_turns.proofs.TraceLoops.{step_broke, step_cut, step_goes}
 use Rattle.boot_turns.proofs.completion.step_traced.Given.{Over}
 use Rattle.boot_turns.proofs.completion.step_traced.Goals.{In-Some, in-Kept+else-counts, in_default}
 use Rattle.boot_turns.proofs.completion.step_traced.Goals as goal

@@ -1,6 +1,6 @@
 use Rattle.std.proofs.Common.{◌∙◌}
 use Rattle.std.proofs.lemmas.Result.{err_from_is_err_and}
-use Rattle.cvm_outside.proofs.Putting.{puts_both, puts_first, puts_same}
+use Rattle.cvm_outside.proofs.RowsPut.{puts_both, puts_first, puts_same}
 use Rattle.boot_turns.proofs.tracer.put_after.Goals as goal
 
 pub returns-in_err-put : goal.returns-in_err-put

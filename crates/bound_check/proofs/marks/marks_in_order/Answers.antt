@@ -7,9 +7,9 @@ use Rattle.c0_meaning.specs.CallChain.{frame_at}
 use Rattle.bound_check.specs.Calls.{callees}
 use Rattle.bound_check.specs.declared.marks.Mark.{Mark}
 use Rattle.bound_check.specs.declared.marks.Mark.TheVariants.{Unseen}
-use Rattle.bound_check.specs.Marks.{mark_of, most, mark_by, told, MAX_FRAME}
+use Rattle.bound_check.specs.Marks.{mark_of, most, mark_by, told_words, MAX_FRAME}
 use Rattle.c0_struct_sizes.proofs.GraphLemmas.{in_at, replicate_at}
-use Rattle.bound_check.proofs.Telling.{most_below, told_more, small_more, calls_listed, all_listed}
+use Rattle.bound_check.proofs.FunctionsTold.{most_below, told_more, small_more, calls_listed, all_listed}
 use Rattle.bound_check.proofs.marks.marks_in_order.Goals as goal
 
 pub loop-function-init : goal.loop-function-init
@@ -19,7 +19,7 @@ loop-function-init c =
     record {
       all = len ∙ all_listed (unit_view c.args.unit.now) c.args.graph.now c.requires.calls;
       small = λ v.
-          let none : told (mark_of c.in_ok-marks.marks.items v) ≡ 0 = ap (λ (l : List Mark). told (mark_of l v)) marks ∙ ap told (replicate_at Unseen (length c.args.graph.now) v) in
+          let none : told_words (mark_of c.in_ok-marks.marks.items v) ≡ 0 = ap (λ (l : List Mark). told_words (mark_of l v)) marks ∙ ap told_words (replicate_at Unseen (length c.args.graph.now) v) in
           omega arith;
       right = λ v h. absurd h;
     }

@@ -5,7 +5,7 @@ use Rattle.c0_meaning.specs.CallChain.{frame_at}
 use Rattle.c0_struct_sizes.specs.Graph.{IsOrder}
 use Rattle.bound_check.specs.Calls.{callees}
 use Rattle.bound_check.specs.Marks.{AreTold}
-use Rattle.bound_check.proofs.Telling.{all_told}
+use Rattle.bound_check.proofs.FunctionsTold.{all_told}
 use Rattle.bound_check.proofs.marks.marks_of.Goals as goal
 
 pub marks_in_order-requires-clause-order : goal.marks_in_order-requires-clause-order

@@ -1,5 +1,5 @@
 -- By the laws that the body calls.
-use Rattle.c0_asm_body.proofs.Bodies.{asm_runs}
+use Rattle.c0_asm_body.proofs.BodiesRun.{asm_runs}
 use Rattle.c0_asm_body.proofs.laws.asm_bodies_run.Goals as goal
 
 pub returns : goal.returns

@@ -1,7 +1,7 @@
 use Rattle.std.proofs.Common.{◌==◌, ◌+◌, ◌∷◌, List, ℕ, take, sym, ap, ◌∙◌}
 use Rattle.std.proofs.lemmas.List.{take_rest}
 use Rattle.mips_asm.specs.Text.{asm_lines}
-use Rattle.c0_asm_text.proofs.Cuts.{first_part, only_part}
+use Rattle.c0_asm_text.proofs.FirstLines.{first_part, only_part}
 use Rattle.c0_asm_text.proofs.text.cut.Goals as goal
 
 pub returns-then-len-text-clause-lines : goal.returns-then-len-text-clause-lines

@@ -1,6 +1,6 @@
 -- Line by line.
 use Rattle.mips_asm.specs.Text.{asm_lines}
-use Rattle.c0_asm_text.proofs.Steps.{words_allowed}
+use Rattle.c0_asm_text.proofs.LinesAllowed.{words_allowed}
 use Rattle.c0_asm_text.proofs.text.words_are_allowed.Goals as goal
 
 pub returns : goal.returns

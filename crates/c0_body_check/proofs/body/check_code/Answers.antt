@@ -5,7 +5,7 @@ use Rattle.c0_name_check.specs.Met.{met_view}
 use Rattle.c0_meaning.specs.Form.{ty_view}
 use Rattle.c0_body_check.specs.Scope.{env_view}
 use Rattle.c0_body_check.specs.Stmts.{faults_of_stmts}
-use Rattle.c0_name_check.proofs.Meeting.{two_met}
+use Rattle.c0_name_check.proofs.FaultsMet.{two_met}
 use Rattle.c0_body_check.proofs.StmtLemmas.{lent_stmts}
 use Rattle.c0_body_check.proofs.body.check_code.Goals as goal
 

@@ -1,4 +1,4 @@
-use Rattle.c0_expr_code.proofs.Parts.{put_parts, parts_more, fits_more}
+use Rattle.c0_expr_code.proofs.FittingParts.{put_parts, parts_more, fits_more}
 use Rattle.c0_expr_code.proofs.laws.parts_fit.Goals as goal
 
 pub returns : goal.returns

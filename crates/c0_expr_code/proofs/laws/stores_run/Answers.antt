@@ -1,4 +1,4 @@
-use Rattle.c0_expr_code.proofs.Storing.{stores}
+use Rattle.c0_expr_code.proofs.WordStored.{stores}
 use Rattle.c0_expr_code.proofs.laws.stores_run.Goals as goal
 
 pub returns : goal.returns

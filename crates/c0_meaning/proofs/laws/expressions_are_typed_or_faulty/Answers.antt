@@ -1,4 +1,4 @@
-use Rattle.c0_meaning.proofs.Typed.{typed_is_faultless, has_one_type}
+use Rattle.c0_meaning.proofs.TypedIsFaultless.{typed_is_faultless, has_one_type}
 use Rattle.c0_meaning.proofs.Faultless.{faultless_is_typed}
 use Rattle.c0_meaning.proofs.laws.expressions_are_typed_or_faulty.Goals as goal
 

@@ -1,4 +1,4 @@
-use Rattle.c0_meaning.proofs.Allowed.{all_allowed}
+use Rattle.c0_meaning.proofs.AllowedWords.{all_allowed}
 use Rattle.c0_meaning.proofs.laws.words_are_allowed_as_tested.Goals as goal
 
 pub returns : goal.returns

@@ -4,7 +4,7 @@ use Rattle.c0_tree.specs.declared.tree.StructDef.{StructDef}
 use Rattle.c0_tree.specs.Tree.{CStruct}
 use Rattle.c0_tree.specs.View.{struct_view, unit_view}
 use Rattle.c0_meaning.specs.Sound.{shapes, IsSized, IsSizedStruct}
-use Rattle.c0_meaning.proofs.Sized.{all_at}
+use Rattle.c0_meaning.proofs.SizedTypes.{all_at}
 use Rattle.c0_meaning.proofs.offsets.structs_offsets.Goals as goal
 
 pub struct_offsets-requires-clause-fields : goal.struct_offsets-requires-clause-fields

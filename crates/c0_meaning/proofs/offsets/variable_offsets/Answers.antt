@@ -7,7 +7,7 @@ use Rattle.c0_tree.specs.View.{unit_view, function_view}
 use Rattle.c0_meaning.specs.Offsets.{offsets}
 use Rattle.c0_meaning.specs.Sound.{shapes, IsSizedFunction}
 use Rattle.c0_meaning.specs.TypedState.{variable_types}
-use Rattle.c0_meaning.proofs.Sized.{function_at, function_there}
+use Rattle.c0_meaning.proofs.SizedTypes.{function_at, function_there}
 use Rattle.c0_meaning.proofs.WellFormed.{well_formed_functions}
 use Rattle.c0_meaning.proofs.offsets.variable_offsets.Goals as goal
 

@@ -1,4 +1,4 @@
-use Rattle.c0_meaning.proofs.Runs.{more_units}
+use Rattle.c0_meaning.proofs.RunsWithinUnits.{more_units}
 use Rattle.c0_meaning.proofs.run_laws.more_units_change_nothing.Goals as goal
 
 pub returns : goal.returns

@@ -1,4 +1,4 @@
-use Rattle.c0_meaning.proofs.Steps.{calls_extend}
+use Rattle.c0_meaning.proofs.StepsTakeUnits.{calls_extend}
 use Rattle.c0_meaning.proofs.run_laws.more_units_extend_the_calls.Goals as goal
 
 pub returns : goal.returns

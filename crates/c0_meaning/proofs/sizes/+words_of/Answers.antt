@@ -7,7 +7,7 @@ use Rattle.c0_meaning.specs.Ty.{ty_of}
 use Rattle.c0_meaning.specs.Resolved.{IsResolved}
 use Rattle.c0_meaning.specs.Sizes.{capped, WORDS_CAP}
 use Rattle.c0_meaning.specs.Sound.{shapes}
-use Rattle.c0_meaning.proofs.Sized.{struct_below, struct_told, array_told}
+use Rattle.c0_meaning.proofs.SizedTypes.{struct_below, struct_told, array_told}
 use Rattle.c0_meaning.proofs.sizes.+words_of.Goals as goal
 
 view_named : (x : _) → type_view (rust.Named x) ≡ named (name_view x)

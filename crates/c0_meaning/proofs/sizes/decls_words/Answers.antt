@@ -5,7 +5,7 @@ use Rattle.c0_meaning.specs.Ty.{ty_of}
 use Rattle.c0_meaning.specs.Env.{Shape}
 use Rattle.c0_meaning.specs.Sizes.{capped}
 use Rattle.c0_meaning.specs.Sound.{shapes, IsSized}
-use Rattle.c0_meaning.proofs.Sized.{decl_sized, words_left}
+use Rattle.c0_meaning.proofs.SizedTypes.{decl_sized, words_left}
 use Rattle.c0_meaning.proofs.sizes.decls_words.Goals as goal
 
 pub words_of-requires : goal.words_of-requires

@@ -4,7 +4,7 @@ use Rattle.c0_tree.specs.declared.tree.Unit.{Unit as Source}
 use Rattle.c0_tree.specs.View.{unit_view, function_view}
 use Rattle.c0_meaning.specs.Limits.{words_of_frame}
 use Rattle.c0_meaning.specs.Sound.{shapes, IsSizedFunction}
-use Rattle.c0_meaning.proofs.Sized.{function_at, function_there}
+use Rattle.c0_meaning.proofs.SizedTypes.{function_at, function_there}
 use Rattle.c0_meaning.proofs.WellFormed.{well_formed_functions}
 use Rattle.c0_meaning.proofs.sizes.frame_words.Goals as goal
 

@@ -1,4 +1,4 @@
-use Rattle.c0_meaning.proofs.Sized.{decl_sized}
+use Rattle.c0_meaning.proofs.SizedTypes.{decl_sized}
 use Rattle.c0_meaning.proofs.TypesTold.{declared_there, none_declared}
 use Rattle.c0_meaning.proofs.type_at.declared_type.Goals as goal
 

@@ -8,7 +8,7 @@ use Rattle.c0_tree.specs.Tree.{CDecl}
 use Rattle.c0_tree.specs.View.{decl_view, name_view, unit_view}
 use Rattle.c0_meaning.specs.Env.{Typed, typed_of}
 use Rattle.c0_meaning.specs.Sound.{shapes, IsSized}
-use Rattle.c0_meaning.proofs.Sized.{struct_below}
+use Rattle.c0_meaning.proofs.SizedTypes.{struct_below}
 use Rattle.c0_meaning.proofs.TypesTold.{fields_there, fields_sized}
 use Rattle.c0_meaning.proofs.WellFormed.{well_formed_sized}
 use Rattle.c0_meaning.proofs.type_at.struct_field.Goals as goal

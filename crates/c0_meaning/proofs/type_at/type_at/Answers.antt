@@ -6,7 +6,7 @@ use Rattle.c0_tree.specs.View.{unit_view, function_view, expr_view}
 use Rattle.c0_meaning.specs.Sound.{shapes, IsSizedFunction}
 use Rattle.c0_meaning.specs.TypeAt as spec
 use Rattle.c0_meaning.specs.TypeAt.{env_in}
-use Rattle.c0_meaning.proofs.Sized.{function_at, function_there}
+use Rattle.c0_meaning.proofs.SizedTypes.{function_at, function_there}
 use Rattle.c0_meaning.proofs.WellFormed.{well_formed_functions}
 use Rattle.c0_meaning.proofs.type_at.type_at.Goals as goal
 

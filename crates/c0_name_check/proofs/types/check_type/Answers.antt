@@ -6,7 +6,7 @@ use Rattle.c0_meaning.specs.DeclaredTypes.{fault_if, has_empty_array, MAX_TYPE_W
 use Rattle.c0_name_check.specs.Met.{met_view}
 use Rattle.c0_name_check.specs.Names.{look}
 use Rattle.c0_name_check.specs.Structs.{unknown_by, capped_words}
-use Rattle.c0_name_check.proofs.Meeting.{two_met}
+use Rattle.c0_name_check.proofs.FaultsMet.{two_met}
 use Rattle.c0_name_check.proofs.StructsTell.{same_faults, same_resolved}
 use Rattle.c0_name_check.proofs.types.check_type.Goals as goal
 

@@ -10,7 +10,7 @@ use Rattle.c0_parser.specs.Contract.{as_seen}
 use Rattle.c0_parser.specs.Views.{IsPart}
 use Rattle.c0_parser.specs.Levels.{rule_of, operation, heads_any}
 use Rattle.c0_parser.specs.Tails.{part_value, LITERAL, FIELD, SUFFIX}
-use Rattle.c0_parser.proofs.Steps.{goes_sign, goes_both, goes_first, goes_second, goes_the, goes_with, goes_without, list_starts, fails_left, fails_right, fails_first, fails_second, fails_the, fails_with, exits, exits_any, shorter}
+use Rattle.c0_parser.proofs.PieceSteps.{goes_sign, goes_both, goes_first, goes_second, goes_the, goes_with, goes_without, list_starts, fails_left, fails_right, fails_first, fails_second, fails_the, fails_with, exits, exits_any, shorter}
 use Rattle.c0_parser.proofs.Exprs.{chain_more, chain_ends, chain_fails, first_fails, pair_gives, operation_heads, operation_here, goes_operation, fails_operation, suffixes_more, suffixes_end, suffixes_fail, picks_element, picks_prefixed, picks_parens, goes_prefix, literal_gives, postfix_gives, field_gives}
 use Rattle.c0_parser.proofs.expressions.+exprs.Goals as goal
 

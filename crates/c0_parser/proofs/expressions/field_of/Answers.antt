@@ -4,7 +4,7 @@ use Rattle.c0_tokens.specs.Tokens.{token_view}
 use Rattle.c0_parser.specs.Value.{token, pair, suffixed}
 use Rattle.c0_parser.specs.Views.{IsPart}
 use Rattle.c0_parser.specs.Tails.{part_value, FIELD}
-use Rattle.c0_parser.proofs.Steps.{goes_both, fails_right, exits, shorter}
+use Rattle.c0_parser.proofs.PieceSteps.{goes_both, fails_right, exits, shorter}
 use Rattle.c0_parser.proofs.Exprs.{goes_field, fails_field}
 use Rattle.c0_parser.proofs.expressions.field_of.Goals as goal
 

@@ -2,8 +2,8 @@ use Rattle.std.proofs.Common.{rules, ◌≡◌, [], ◌∷◌, length, refl, ap}
 use Rattle.c0_parser.specs.Sorts.{an_asm_text, sort, among}
 use Rattle.c0_tokens.specs.Tokens.{token_view}
 use Rattle.c0_parser.specs.Contract.{as_seen}
-use Rattle.c0_parser.proofs.Steps.{goes_one, refuses_one, fails_by, seen_length, shorter}
-use Rattle.c0_parser.proofs.Parts.{asm_meaning}
+use Rattle.c0_parser.proofs.PieceSteps.{goes_one, refuses_one, fails_by, seen_length, shorter}
+use Rattle.c0_parser.proofs.PartsMean.{asm_meaning}
 use Rattle.c0_parser.proofs.items.asm_body.Goals as goal
 
 pub returns-in_ok-bytes-in-Some : goal.returns-in_ok-bytes-in-Some

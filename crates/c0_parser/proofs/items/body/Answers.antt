@@ -4,8 +4,8 @@ use Rattle.c0_tokens.specs.declared.token.Mark.TheVariants.{Asm, OpenBrace}
 use Rattle.c0_parser.specs.Value.{body_value}
 use Rattle.c0_parser.specs.Grammar.{the, code, body, one_of, sign, ◌▸◌}
 use Rattle.c0_parser.specs.Views.{IsBody, IsAsm}
-use Rattle.c0_parser.proofs.Steps.{goes_the, goes_both, goes_first_at, goes_second_not, mark_kind, fails_the, fails_left, fails_right, fails_first_at, fails_second_not, exits, tails}
-use Rattle.c0_parser.proofs.Parts.{asm_body_meaning}
+use Rattle.c0_parser.proofs.PieceSteps.{goes_the, goes_both, goes_first_at, goes_second_not, mark_kind, fails_the, fails_left, fails_right, fails_first_at, fails_second_not, exits, tails}
+use Rattle.c0_parser.proofs.PartsMean.{asm_body_meaning}
 use Rattle.c0_parser.proofs.items.body.Goals as goal
 
 pub returns-in-Some : goal.returns-in-Some

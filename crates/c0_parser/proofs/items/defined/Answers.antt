@@ -3,8 +3,8 @@ use Rattle.c0_parser.specs.Value.{pair}
 use Rattle.c0_parser.specs.Grammar.{◌▸◌, NAME}
 use Rattle.c0_parser.specs.Factored.{AFTER_DECL, DEFINED}
 use Rattle.c0_parser.specs.Views.{typed, IsItemOfDecl, IsDefined}
-use Rattle.c0_parser.proofs.Steps.{goes_both, fails_left, fails_right, exits, tails}
-use Rattle.c0_parser.proofs.Parts.{defined_meaning}
+use Rattle.c0_parser.proofs.PieceSteps.{goes_both, fails_left, fails_right, exits, tails}
+use Rattle.c0_parser.proofs.PartsMean.{defined_meaning}
 use Rattle.c0_parser.proofs.items.defined.Goals as goal
 
 pub returns-in_err-typed : goal.returns-in_err-typed

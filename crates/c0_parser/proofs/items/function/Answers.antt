@@ -2,8 +2,8 @@ use Rattle.std.proofs.Common.{arith}
 use Rattle.c0_tokens.specs.declared.token.Mark.TheVariants.{CloseParen, Comma}
 use Rattle.c0_parser.specs.Grammar.{the, decl, body, sign, many, maybe, ◌▸◌, FUNCTION}
 use Rattle.c0_parser.specs.Views.{IsItemOfDecl}
-use Rattle.c0_parser.proofs.Steps.{goes_both, fails_left, fails_right, exits}
-use Rattle.c0_parser.proofs.Parts.{function_meaning}
+use Rattle.c0_parser.proofs.PieceSteps.{goes_both, fails_left, fails_right, exits}
+use Rattle.c0_parser.proofs.PartsMean.{function_meaning}
 use Rattle.c0_parser.proofs.items.function.Goals as goal
 
 pub returns-in_err-rest : goal.returns-in_err-rest

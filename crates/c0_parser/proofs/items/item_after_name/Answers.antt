@@ -9,8 +9,8 @@ use Rattle.c0_parser.specs.Grammar.{many, sign, ◌▸◌, ◌or◌, LINE, FIELD
 use Rattle.c0_parser.specs.Factored.{DEFINED, declared_as}
 use Rattle.c0_parser.specs.Factored as factored
 use Rattle.c0_parser.specs.Views.{IsStruct, IsDefined, IsItemAfterName}
-use Rattle.c0_parser.proofs.Steps.{goes_first_at, goes_second_not, heads_not, mark_kind, fails_first_at, fails_second_not, tails}
-use Rattle.c0_parser.proofs.Parts.{item_after_name_is}
+use Rattle.c0_parser.proofs.PieceSteps.{goes_first_at, goes_second_not, heads_not, mark_kind, fails_first_at, fails_second_not, tails}
+use Rattle.c0_parser.proofs.PartsMean.{item_after_name_is}
 use Rattle.c0_parser.proofs.items.item_after_name.Goals as goal
 
 pub returns-in-Some : goal.returns-in-Some

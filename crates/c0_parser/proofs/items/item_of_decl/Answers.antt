@@ -4,7 +4,7 @@ use Rattle.c0_tokens.specs.declared.token.Mark.TheVariants.{Semicolon}
 use Rattle.c0_parser.specs.Grammar.{sign, FUNCTION}
 use Rattle.c0_parser.specs.Factored.{AFTER_DECL}
 use Rattle.c0_parser.specs.Views.{IsItemOfDecl}
-use Rattle.c0_parser.proofs.Steps.{goes_sign, goes_first_at, goes_second_not, mark_kind, fails_second_not, shorter, tails}
+use Rattle.c0_parser.proofs.PieceSteps.{goes_sign, goes_first_at, goes_second_not, mark_kind, fails_second_not, shorter, tails}
 use Rattle.c0_parser.proofs.items.item_of_decl.Goals as goal
 
 pub returns-in-Some : goal.returns-in-Some

@@ -8,8 +8,8 @@ use Rattle.c0_parser.specs.Contract.{as_seen}
 use Rattle.c0_parser.specs.Grammar.{sign, ◌▸◌, ◌or◌, NAME, BASIC, FIELDS}
 use Rattle.c0_parser.specs.Factored.{DEFINED, FACTORED, factored_value}
 use Rattle.c0_parser.specs.Views.{IsItem, IsDefined, IsItemAfterName}
-use Rattle.c0_parser.proofs.Steps.{goes_sign, goes_both, goes_first_at, goes_second_heads, heads_then, heads_not, picks_not, mark_kind, fails_left, fails_right, fails_first_at, fails_second_heads, fails_by, refuses_second, refuses_left, refuses_one, seen_length, exits, shorter, tails}
-use Rattle.c0_parser.proofs.Parts.{basic_is}
+use Rattle.c0_parser.proofs.PieceSteps.{goes_sign, goes_both, goes_first_at, goes_second_heads, heads_then, heads_not, picks_not, mark_kind, fails_left, fails_right, fails_first_at, fails_second_heads, fails_by, refuses_second, refuses_left, refuses_one, seen_length, exits, shorter, tails}
+use Rattle.c0_parser.proofs.PartsMean.{basic_is}
 use Rattle.c0_parser.proofs.items.next_item.Goals as goal
 
 pub returns-in_err-name : goal.returns-in_err-name

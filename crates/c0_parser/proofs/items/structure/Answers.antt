@@ -3,8 +3,8 @@ use Rattle.c0_tokens.specs.declared.token.Mark.TheVariants.{CloseBrace, Semicolo
 use Rattle.c0_parser.specs.Value.{pair}
 use Rattle.c0_parser.specs.Grammar.{many, sign, ◌▸◌, LINE, FIELDS}
 use Rattle.c0_parser.specs.Views.{IsStruct}
-use Rattle.c0_parser.proofs.Steps.{goes_both, fails_left, fails_right, exits}
-use Rattle.c0_parser.proofs.Parts.{struct_meaning}
+use Rattle.c0_parser.proofs.PieceSteps.{goes_both, fails_left, fails_right, exits}
+use Rattle.c0_parser.proofs.PartsMean.{struct_meaning}
 use Rattle.c0_parser.proofs.items.structure.Goals as goal
 
 pub returns-in_err-rest : goal.returns-in_err-rest

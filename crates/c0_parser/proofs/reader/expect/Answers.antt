@@ -1,5 +1,5 @@
 use Rattle.std.proofs.Common.{refl}
-use Rattle.c0_parser.proofs.Steps.{goes_sign, fails_sign, shorter}
+use Rattle.c0_parser.proofs.PieceSteps.{goes_sign, fails_sign, shorter}
 use Rattle.c0_parser.proofs.reader.expect.Goals as goal
 
 pub returns-in-Some : goal.returns-in-Some

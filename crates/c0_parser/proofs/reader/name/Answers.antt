@@ -1,5 +1,5 @@
 use Rattle.std.proofs.Common.{refl}
-use Rattle.c0_parser.proofs.Steps.{goes_name, named_at, fails_name, shorter}
+use Rattle.c0_parser.proofs.PieceSteps.{goes_name, named_at, fails_name, shorter}
 use Rattle.c0_parser.proofs.reader.name.Goals as goal
 
 pub returns-in_ok-bytes-in-Some : goal.returns-in_ok-bytes-in-Some

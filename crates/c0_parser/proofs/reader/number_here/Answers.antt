@@ -1,6 +1,6 @@
 use Rattle.std.proofs.Common.{refl, ap}
 use Rattle.c0_parser.specs.Value.{literal_value}
-use Rattle.c0_parser.proofs.Steps.{goes_number, fails_number, shorter}
+use Rattle.c0_parser.proofs.PieceSteps.{goes_number, fails_number, shorter}
 use Rattle.c0_parser.proofs.reader.number_here.Goals as goal
 
 pub returns-in-Some : goal.returns-in-Some

@@ -3,7 +3,7 @@ use Rattle.std.proofs.Common.{arith}
 use Rattle.c0_tokens.specs.declared.token.Mark.TheVariants.{Assign, Semicolon}
 use Rattle.c0_parser.specs.Grammar.{sign, ◌▸◌, RIGHT}
 use Rattle.c0_parser.specs.Stmts.{ASSIGNMENT, IsStmtOf}
-use Rattle.c0_parser.proofs.Steps.{goes_both, fails_left, fails_right, exits}
+use Rattle.c0_parser.proofs.PieceSteps.{goes_both, fails_left, fails_right, exits}
 use Rattle.c0_parser.proofs.Stmts.{assigned}
 use Rattle.c0_parser.proofs.statements.assignment.Goals as goal
 

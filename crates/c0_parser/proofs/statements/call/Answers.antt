@@ -3,7 +3,7 @@ use Rattle.std.proofs.Common.{arith}
 use Rattle.c0_tokens.specs.declared.token.Mark.TheVariants.{OpenParen, CloseParen}
 use Rattle.c0_parser.specs.Grammar.{sign, ◌▸◌, CALL, ARGS}
 use Rattle.c0_parser.specs.Views.{IsRight}
-use Rattle.c0_parser.proofs.Steps.{goes_both, fails_left, fails_right, exits}
+use Rattle.c0_parser.proofs.PieceSteps.{goes_both, fails_left, fails_right, exits}
 use Rattle.c0_parser.proofs.Stmts.{called}
 use Rattle.c0_parser.proofs.statements.call.Goals as goal
 

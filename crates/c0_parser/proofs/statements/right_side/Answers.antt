@@ -5,7 +5,7 @@ use Rattle.c0_parser.specs.Sorts.{mark}
 use Rattle.c0_parser.specs.Grammar.{sign, ◌▸◌, ◌or◌, the, type, CALL, EXPR, RIGHT}
 use Rattle.c0_parser.specs.Contract.{as_seen}
 use Rattle.c0_parser.specs.Views.{IsRight}
-use Rattle.c0_parser.proofs.Steps.{goes_sign, goes_both, goes_first_at, goes_second, goes_second_not, goes_first, mark_kind, heads_not, fails_right, fails_first, fails_first_at, fails_second, fails_second_not, exits, shorter}
+use Rattle.c0_parser.proofs.PieceSteps.{goes_sign, goes_both, goes_first_at, goes_second, goes_second_not, goes_first, mark_kind, heads_not, fails_right, fails_first, fails_first_at, fails_second, fails_second_not, exits, shorter}
 use Rattle.c0_parser.proofs.Stmts.{lifted}
 use Rattle.c0_parser.proofs.statements.right_side.Goals as goal
 

@@ -2,7 +2,7 @@ use Rattle.std.proofs.Common.{refl, sym, ap, ◌∙◌, arith}
 use Rattle.c0_parser.specs.Grammar.{sign, NAME, BASIC, BASE}
 use Rattle.c0_parser.specs.Value.{base_value}
 use Rattle.c0_parser.specs.Views.{IsBase}
-use Rattle.c0_parser.proofs.Steps.{struct_base, goes_both, goes_first_heads, goes_second_not, fails_left, fails_right, fails_second_not, exits}
+use Rattle.c0_parser.proofs.PieceSteps.{struct_base, goes_both, goes_first_heads, goes_second_not, fails_left, fails_right, fails_second_not, exits}
 use Rattle.c0_tokens.specs.declared.token.Mark.TheVariants.{Struct}
 use Rattle.c0_parser.specs.Grammar.{◌▸◌}
 use Rattle.c0_parser.proofs.types.base.Goals as goal

@@ -1,7 +1,7 @@
 use Rattle.std.proofs.Common.{arith}
 use Rattle.c0_parser.specs.Grammar.{the, decl, NAME}
 use Rattle.c0_parser.specs.Views.{IsDecl}
-use Rattle.c0_parser.proofs.Steps.{decl_meaning, goes_the, goes_both, fails_the, fails_left, fails_right, exits}
+use Rattle.c0_parser.proofs.PieceSteps.{decl_meaning, goes_the, goes_both, fails_the, fails_left, fails_right, exits}
 use Rattle.c0_parser.proofs.types.declaration.Goals as goal
 
 pub returns-in_err-typed : goal.returns-in_err-typed

@@ -2,7 +2,7 @@ use Rattle.std.proofs.Common.{rules, ◌≡◌, [], ◌++◌, sym, ap, ◌∙◌
 use Rattle.c0_parser.specs.Value.{decls}
 use Rattle.c0_parser.specs.Grammar.{◌▸◌, many, LINE}
 use Rattle.c0_parser.specs.Views.{AreFields, AreMoreLines}
-use Rattle.c0_parser.proofs.Steps.{one_decl, goes_both, fails_left, fails_right, exits, tails_more}
+use Rattle.c0_parser.proofs.PieceSteps.{one_decl, goes_both, fails_left, fails_right, exits, tails_more}
 use Rattle.c0_parser.proofs.types.fields.Goals as goal
 
 pub returns-in_err-first : goal.returns-in_err-first

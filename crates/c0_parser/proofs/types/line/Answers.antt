@@ -2,7 +2,7 @@ use Rattle.std.proofs.Common.{refl, arith}
 use Rattle.c0_parser.specs.Grammar.{sign, LINE}
 use Rattle.c0_tokens.specs.declared.token.Mark.TheVariants.{Semicolon}
 use Rattle.c0_parser.specs.Views.{IsListed}
-use Rattle.c0_parser.proofs.Steps.{goes_both, fails_left, fails_right, exits}
+use Rattle.c0_parser.proofs.PieceSteps.{goes_both, fails_left, fails_right, exits}
 use Rattle.c0_parser.proofs.types.line.Goals as goal
 
 pub returns-in_err-decl : goal.returns-in_err-decl

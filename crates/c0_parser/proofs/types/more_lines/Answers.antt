@@ -4,7 +4,7 @@ use Rattle.c0_parser.specs.Value.{none, snoc}
 use Rattle.c0_parser.specs.Grammar.{many, LINE, sign, the, decl}
 use Rattle.c0_parser.specs.Contract.{as_seen}
 use Rattle.c0_parser.specs.Views.{AreMoreLines}
-use Rattle.c0_parser.proofs.Steps.{list_begins, list_more, goes_many, heads_then, heads_not, fails_list, more_decls, no_decls, exits_any}
+use Rattle.c0_parser.proofs.PieceSteps.{list_begins, list_more, goes_many, heads_then, heads_not, fails_list, more_decls, no_decls, exits_any}
 use Rattle.c0_parser.proofs.types.more_lines.Goals as goal
 
 pub loop-here-init : goal.loop-here-init

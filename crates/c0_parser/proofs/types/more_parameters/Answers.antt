@@ -6,7 +6,7 @@ use Rattle.c0_parser.specs.Contract.{as_seen}
 use Rattle.c0_parser.specs.Sorts.{mark}
 use Rattle.c0_tokens.specs.Tokens.{token_view}
 use Rattle.c0_parser.specs.Views.{AreMoreLines}
-use Rattle.c0_parser.proofs.Steps.{list_begins, list_item, goes_many, goes_both, goes_sign, heads_not, heads_is, mark_kind, fails_many, fails_right, more_decls, no_decls, comma_decl, exits_any}
+use Rattle.c0_parser.proofs.PieceSteps.{list_begins, list_item, goes_many, goes_both, goes_sign, heads_not, heads_is, mark_kind, fails_many, fails_right, more_decls, no_decls, comma_decl, exits_any}
 use Rattle.c0_parser.proofs.types.more_parameters.Goals as goal
 
 pub loop-after_comma-init : goal.loop-after_comma-init

@@ -3,7 +3,7 @@ use Rattle.c0_parser.specs.Sorts.{mark}
 use Rattle.c0_parser.specs.Views.{IsSuffix}
 use Rattle.c0_parser.specs.Grammar.{sign, ◌▸◌, NUMBER, SUFFIX}
 use Rattle.c0_tokens.specs.declared.token.Mark.TheVariants.{Star, OpenBracket, CloseBracket}
-use Rattle.c0_parser.proofs.Steps.{goes_sign, goes_both, goes_first_at, goes_second_not, mark_kind, fails_left, fails_right, fails_second_not, exits, shorter}
+use Rattle.c0_parser.proofs.PieceSteps.{goes_sign, goes_both, goes_first_at, goes_second_not, mark_kind, fails_left, fails_right, fails_second_not, exits, shorter}
 use Rattle.c0_parser.proofs.types.one_suffix.Goals as goal
 
 pub returns-in-Some : goal.returns-in-Some

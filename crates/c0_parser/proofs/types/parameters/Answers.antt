@@ -5,7 +5,7 @@ use Rattle.c0_parser.specs.Value.{none, decls, decls_in}
 use Rattle.c0_parser.specs.Grammar.{◌▸◌, many, maybe, sign, the, decl}
 use Rattle.c0_parser.specs.Contract.{as_seen}
 use Rattle.c0_parser.specs.Views.{AreParams, AreMoreLines}
-use Rattle.c0_parser.proofs.Steps.{one_decl, goes_both, goes_with_at, goes_without, heads_then, heads_not, fails_left, fails_right, fails_with_at, exits_any, tails_any}
+use Rattle.c0_parser.proofs.PieceSteps.{one_decl, goes_both, goes_with_at, goes_without, heads_then, heads_not, fails_left, fails_right, fails_with_at, exits_any, tails_any}
 use Rattle.c0_parser.proofs.types.parameters.Goals as goal
 
 pub returns-in_err-first-in-Some : goal.returns-in_err-first-in-Some

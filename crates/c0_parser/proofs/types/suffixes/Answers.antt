@@ -2,7 +2,7 @@ use Rattle.std.proofs.Common.{length, sym, ap, ◌∙◌, arith}
 use Rattle.c0_parser.specs.Value.{none, snoc, type_suffixed}
 use Rattle.c0_parser.specs.Grammar.{SUFFIX, SUFFIXES}
 use Rattle.c0_parser.specs.Views.{typed, AreSuffixes}
-use Rattle.c0_parser.proofs.Steps.{list_begins, list_more, goes_many, fails_list, exits_any}
+use Rattle.c0_parser.proofs.PieceSteps.{list_begins, list_more, goes_many, fails_list, exits_any}
 use Rattle.c0_parser.proofs.types.suffixes.Goals as goal
 
 pub loop-here-init : goal.loop-here-init

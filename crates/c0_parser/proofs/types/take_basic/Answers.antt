@@ -4,7 +4,7 @@ use Rattle.c0_parser.specs.Value.{type, basic, token_span}
 use Rattle.c0_parser.specs.Grammar.{BASIC}
 use Rattle.c0_tokens.specs.Tokens.{token_view}
 use Rattle.c0_tokens.specs.declared.token.Mark.TheVariants.{Int, Bool as Boolean}
-use Rattle.c0_parser.proofs.Steps.{goes_mark, heads_is, mark_kind, shorter}
+use Rattle.c0_parser.proofs.PieceSteps.{goes_mark, heads_is, mark_kind, shorter}
 use Rattle.c0_parser.proofs.types.take_basic.Goals as goal
 
 pub returns-in-Some : goal.returns-in-Some

@@ -2,7 +2,7 @@ use Rattle.std.proofs.Common.{ap, ◌∙◌, arith}
 use Rattle.c0_parser.specs.Value.{type_suffixes}
 use Rattle.c0_parser.specs.Grammar.{the, type, SUFFIXES}
 use Rattle.c0_parser.specs.Views.{IsTyped, AreSuffixes}
-use Rattle.c0_parser.proofs.Steps.{goes_the, goes_both, fails_the, fails_left, fails_right, exits, tails_more}
+use Rattle.c0_parser.proofs.PieceSteps.{goes_the, goes_both, fails_the, fails_left, fails_right, exits, tails_more}
 use Rattle.c0_parser.proofs.types.type_of.Goals as goal
 
 pub returns-in_err-base : goal.returns-in_err-base

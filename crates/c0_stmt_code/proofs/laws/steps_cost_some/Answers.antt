@@ -3,4 +3,4 @@ use Rattle.c0_stmt_code.proofs.StepCosts.{costs_some}
 use Rattle.c0_stmt_code.proofs.laws.steps_cost_some.Goals as goal
 
 pub returns : goal.returns
-returns g c = λ fixed z. costs_some g.M.Outside.Standing g.M.Outside.Entry (g.M.Outside.outer fixed) z
+returns g c = λ fixed z. costs_some g.M.Surroundings.Standing g.M.Surroundings.Entry (g.M.Surroundings.outer fixed) z

@@ -29,7 +29,7 @@ emit_statement-emit_call-requires-clause-args t c =
 
 pub emit_otherwise-returns : goal.emit_otherwise-returns
 emit_otherwise-returns t c =
-    let is = stmts_code (scope_in c.args.scene.now) (links_of c.args.places.now) (stmts_view c.args.no.now) in
+    let is = stmts_code (scope_in c.args.scene.now) (links_of c.args.addresses.now) (stmts_view c.args.no.now) in
     let e = otherwise_is c.args.no.now is (grind arith) in
     subst (λ z. OnOk c.emit_skipped.result (c.emit_skipped.new.code.items ≡ c.args.code.now.items ++ map encoding z)) (sym e) c.emit_skipped.ensures
 
@@ -44,20 +44,20 @@ emit_if-patch_all-requires-clause-jumps t c =
 
 pub emit_if-behind_jump-to-requires : goal.emit_if-behind_jump-to-requires
 emit_if-behind_jump-to-requires t c =
-    let other = stmts_code (scope_in c.args.scene.now) (links_of c.args.places.now) (stmts_view c.args.no.now) in
+    let other = stmts_code (scope_in c.args.scene.now) (links_of c.args.addresses.now) (stmts_view c.args.no.now) in
     let long = otherwise_fits c.emit_statements.new.code.items c.emit_otherwise.new.code.items (stmts_view c.args.no.now) other c.in_ok-emit_otherwise.ensures in
     omega (arith, long, c.len-end.ensures)
 
 pub emit_if-patch_all-requires-clause-to : goal.emit_if-patch_all-requires-clause-to
 emit_if-patch_all-requires-clause-to t c =
-    let other = stmts_code (scope_in c.args.scene.now) (links_of c.args.places.now) (stmts_view c.args.no.now) in
+    let other = stmts_code (scope_in c.args.scene.now) (links_of c.args.addresses.now) (stmts_view c.args.no.now) in
     let long = otherwise_fits c.emit_statements.new.code.items c.emit_otherwise.new.code.items (stmts_view c.args.no.now) other c.in_ok-emit_otherwise.ensures in
     omega (arith, long, c.len-end.ensures, c.behind_jump-to.ensures)
 
 pub emit_if-returns : goal.emit_if-returns
 emit_if-returns t c =
     let sc = scope_in c.args.scene.now in
-    let x = links_of c.args.places.now in
+    let x = links_of c.args.addresses.now in
     let opened = from_none _ _ _ _ _ c.new-jumps.ensures.items c.in_ok-emit_test.ensures in
     choice_words c.patches_aim.ensures sc (expr_view c.args.test.now) (stmts_view c.args.no.now) c.args.code.now.items c.emit_test.new.code.items c.emit_statements.new.code.items c.emit_otherwise.new.code.items c.patch_all.new.code.items c.emit_test.new.jumps.items
     (stmts_code sc x (stmts_view c.args.yes.now)) (stmts_code sc x (stmts_view c.args.no.now)) c.behind_jump-to.result opened c.in_ok-emit_statements.ensures c.in_ok-emit_otherwise.ensures (omega arith) (omega (arith, c.len-end.ensures, c.behind_jump-to.ensures))
@@ -75,7 +75,7 @@ pub emit_while-returns : goal.emit_while-returns
 emit_while-returns t c =
     let sc = scope_in c.args.scene.now in
     let e = expr_view c.args.test.now in
-    let body = stmts_code sc (links_of c.args.places.now) (stmts_view c.args.body.now) in
+    let body = stmts_code sc (links_of c.args.addresses.now) (stmts_view c.args.body.now) in
     let opened = from_none _ _ _ _ _ c.new-jumps.ensures.items c.in_ok-emit_test.ensures in
     let long : length c.emit_skipped.new.code.items ≡ length c.args.code.now.items + (length body + 1) = skipped_long c.args.code.now.items c.emit_skipped.new.code.items body c.in_ok-emit_skipped.ensures in
     let at : c.if-start-end.to + max (length body) 1 ≡ length c.emit_skipped.new.code.items = elim c.if-start-end.branch [

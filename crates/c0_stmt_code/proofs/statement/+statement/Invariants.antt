@@ -29,8 +29,8 @@ decreases-emit_while l = 8 * stmts_nodes (stmts_view l.body.now) + 4
 
 abbrev pub invariant-emit_statements-loop-stmt : goal.invariant-emit_statements-loop-stmt
 invariant-emit_statements-loop-stmt l = record {
-  appended : l.code.items ++ map encoding (stmts_code (scope_in l.scene) (links_of l.places) (stmts_view (drop l.stmt-index l.stmts)))
-      ≡ l.initial.code.items ++ map encoding (stmts_code (scope_in l.scene) (links_of l.places) (stmts_view l.stmts));
+  appended : l.code.items ++ map encoding (stmts_code (scope_in l.scene) (links_of l.addresses) (stmts_view (drop l.stmt-index l.stmts)))
+      ≡ l.initial.code.items ++ map encoding (stmts_code (scope_in l.scene) (links_of l.addresses) (stmts_view l.stmts));
   emittable : AreEmittable (scope_in l.scene).env (stmts_view (drop l.stmt-index l.stmts));
   nodes : stmts_nodes (stmts_view (drop l.stmt-index l.stmts)) ≤ stmts_nodes (stmts_view l.stmts);
 }

@@ -7,7 +7,7 @@ use Rattle.c0_name_check.specs.Names.{look}
 use Rattle.c0_struct_sizes.specs.Graph.{edges_in, IsOrderOf}
 use Rattle.c0_struct_sizes.specs.Parts.{parts, edges, IsOrderOver}
 use Rattle.c0_struct_sizes.proofs.GraphLemmas.{listed_inside, listed_order}
-use Rattle.c0_struct_sizes.proofs.Telling.{edge_below, parts_there}
+use Rattle.c0_struct_sizes.proofs.NumbersTellNames.{edge_below, parts_there}
 use Rattle.c0_struct_sizes.proofs.sizes.parts_first.Goals as goal
 
 pub order_of-requires-clause-inside : goal.order_of-requires-clause-inside

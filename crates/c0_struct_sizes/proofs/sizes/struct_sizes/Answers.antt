@@ -9,7 +9,7 @@ use Rattle.c0_name_check.specs.Names.{look}
 use Rattle.c0_meaning.specs.Sizes.{WORDS_CAP, struct_sizes}
 use Rattle.c0_name_check.specs.Structs.{KnowsStructs}
 use Rattle.c0_struct_sizes.specs.Parts.{AreWordsAmong, IsOrderOver, holding_themselves, turning_listed, words_listed}
-use Rattle.c0_struct_sizes.proofs.Told.{words_told, table_told, all_held_told}
+use Rattle.c0_struct_sizes.proofs.OrderTells.{words_told, table_told, all_held_told}
 use Rattle.c0_struct_sizes.proofs.sizes.struct_sizes.Goals as goal
 
 pub words_in_order-requires-clause-order : goal.words_in_order-requires-clause-order

@@ -3,8 +3,8 @@ use Rattle.std.proofs.Common.{◌≡◌, ◌∙◌, ◌+◌, inl, inr, map, leng
 use Rattle.std.proofs.lemmas.Bool.{cases_lt, false≢true}
 use Rattle.std.proofs.lemmas.List.{length-map}
 use Rattle.c0_struct_sizes.specs.Graph.{edges_in}
-use Rattle.c0_struct_sizes.specs.Walk.{WalkState, state_of, IsWalkOver, walk_start}
-use Rattle.c0_struct_sizes.proofs.Ends.{first_is_walk, walk_ended}
+use Rattle.c0_struct_sizes.specs.Walk.{WalkState, walk_state, IsWalkOver, walk_start}
+use Rattle.c0_struct_sizes.proofs.WalkEnds.{first_is_walk, walk_ended}
 use Rattle.c0_struct_sizes.proofs.walk.order_of.Goals as goal
 
 pub loop-walk-init : goal.loop-walk-init
@@ -18,4 +18,4 @@ returns c =
       | inl some ↦ absurd (false≢true (sym c.loop-walk-test.false ∙ c.is_under_way.ensures.1 some))
       | inr few ↦ omega arith
     ] in
-    walk_ended (edges_in (map (λ x. x.items) c.args.graph.now)) (length (map (λ x. x.items) c.args.graph.now)) (state_of c.loop-walk.walk) c.loop-walk.invariant none
+    walk_ended (edges_in (map (λ x. x.items) c.args.graph.now)) (length (map (λ x. x.items) c.args.graph.now)) (walk_state c.loop-walk.walk) c.loop-walk.invariant none

@@ -1,4 +1,4 @@
-use Rattle.c0_tokens.proofs.Ends.{source_ends, source_order}
+use Rattle.c0_tokens.proofs.TokensEnd.{source_ends, source_order}
 use Rattle.c0_tokens.proofs.laws.tokens_stand_in_order.Goals as goal
 
 pub returns-clause-ends : goal.returns-clause-ends

@@ -1,7 +1,7 @@
 -- A comment is skipped to the end of its line.
 use Rattle.std.proofs.Common.{◌∙◌, sym, arith}
 use Rattle.std.proofs.lemmas.List.Sums.{prefix_len-le-length}
-use Rattle.c0_tokens.proofs.Runs.{in_line, comment_front}
+use Rattle.c0_tokens.proofs.BlanksAndDigits.{in_line, comment_front}
 use Rattle.c0_tokens.proofs.lexer.blank_len.Goals as goal
 
 pub returns-then-starts_with-clause-within : goal.returns-then-starts_with-clause-within

@@ -2,7 +2,7 @@
 use Rattle.std.proofs.Common.{arith}
 use Rattle.std.proofs.lemmas.List.Sums.{prefix_len-le-length}
 use Rattle.c0_tokens.specs.Lexis.{is_digit}
-use Rattle.c0_tokens.proofs.Runs.{run_passes}
+use Rattle.c0_tokens.proofs.BlanksAndDigits.{run_passes}
 use Rattle.c0_tokens.proofs.lexer.number_cut.Goals as goal
 
 pub split_at-requires : goal.split_at-requires

@@ -4,7 +4,7 @@ use Rattle.c0_tokens.specs.Lexis.{is_asm_word}
 use Rattle.c0_tokens.specs.Tokens.{lexeme_view, token_view}
 use Rattle.c0_tokens.specs.Nesting.{depth_after}
 use Rattle.c0_tokens.specs.View.{cut_view, depth_view}
-use Rattle.c0_tokens.proofs.Steps.{IsFound, found, pushed, pushed_last, left, brackets_below, run_below}
+use Rattle.c0_tokens.proofs.NextTokens.{IsFound, found, pushed, pushed_last, left, brackets_below, run_below}
 use Rattle.c0_tokens.proofs.lexer.tokens.Goals as goal
 
 pub overflow_sub-source : goal.overflow_sub-source

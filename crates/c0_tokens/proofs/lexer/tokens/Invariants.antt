@@ -3,7 +3,7 @@ use Rattle.std.proofs.Common.{◌≡◌, ◌+◌, ◌≤◌, ◌++◌, length, m
 use Rattle.c0_tokens.specs.Nesting.{tokens_of}
 use Rattle.c0_tokens.specs.Tokens.{token_view}
 use Rattle.c0_tokens.specs.View.{depth_view}
-use Rattle.c0_tokens.proofs.Steps.{left}
+use Rattle.c0_tokens.proofs.NextTokens.{left}
 use Rattle.c0_tokens.proofs.lexer.tokens.Given as goal
 
 abbrev pub invariant-loop-tokens : goal.invariant-loop-tokens

@@ -10,7 +10,7 @@ use Rattle.c0_meaning.specs.Fault.{kept_all, TOO_MANY_NODES}
 use Rattle.c0_meaning.specs.DeclaredTypes.{fault_if}
 use Rattle.c0_meaning.specs.Names.{decl_name_faults}
 use Rattle.c0_name_check.specs.Met.{met_view}
-use Rattle.c0_name_check.proofs.Meeting.{two_met}
+use Rattle.c0_name_check.proofs.FaultsMet.{two_met}
 use Rattle.c0_types.specs.Source.{asm_line_fault}
 use Rattle.c0_types.proofs.BodiesScope.{over_capped}
 use Rattle.c0_types.proofs.bodies.check_text.Goals as goal

@@ -5,7 +5,7 @@ use Rattle.c0_tree.specs.View.{decl_view}
 use Rattle.c0_meaning.specs.DeclaredTypes.{type_faults, declared_faults}
 use Rattle.c0_meaning.specs.Fault.{kept_all}
 use Rattle.c0_name_check.specs.Met.{met_view}
-use Rattle.c0_name_check.proofs.Meeting.{kept_all-append}
+use Rattle.c0_name_check.proofs.FaultsMet.{kept_all-append}
 use Rattle.c0_body_check.proofs.InPlace.{rest}
 use Rattle.c0_types.proofs.DeclaredInPlace.{numbered_next, numbered_step, numbered_end}
 use Rattle.c0_types.proofs.DeclaredDecls.{declared, decls_numbered}

@@ -8,7 +8,7 @@ use Rattle.c0_meaning.specs.Env.{shape_of}
 use Rattle.c0_meaning.specs.Fault.{kept_all}
 use Rattle.c0_meaning.specs.Unit.{structs_faults}
 use Rattle.c0_name_check.specs.Met.{met_view}
-use Rattle.c0_types.specs.NumberedStruct.{numbered_struct}
+use Rattle.c0_types.specs.NumberedStruct.{resolved_struct}
 use Rattle.c0_types.proofs.DeclaredInPlace.{numbered}
 use Rattle.c0_types.proofs.structs.check_each.Given as goal
 
@@ -18,7 +18,7 @@ invariant-loop-definition l = record {
   count : length l.field_names.items ≡ l.definition-index;
   changed :
       map struct_view l.structs
-      ≡ numbered (numbered_struct (map shape_of (map struct_view l.initial.structs))) 0 l.definition-index (map struct_view l.initial.structs);
+      ≡ numbered (resolved_struct (map shape_of (map struct_view l.initial.structs))) 0 l.definition-index (map struct_view l.initial.structs);
   fields : (i : ℕ) (n : _) (s : StructDef) → i < l.definition-index
       → MapTells (λ v. v.text) (get_or l.field_names.items i n) (map typed_view (get_or l.structs i s).fields.items);
   met :

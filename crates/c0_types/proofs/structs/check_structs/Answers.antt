@@ -5,7 +5,7 @@ use Rattle.c0_meaning.specs.Env.{shape_of}
 use Rattle.c0_meaning.specs.Names.{struct_name_faults}
 use Rattle.c0_meaning.specs.Unit.{structs_faults}
 use Rattle.c0_name_check.specs.Met.{met_view}
-use Rattle.c0_name_check.proofs.Meeting.{two_met}
+use Rattle.c0_name_check.proofs.FaultsMet.{two_met}
 use Rattle.c0_types.proofs.structs.check_structs.Goals as goal
 
 pub returns-clause-met : goal.returns-clause-met

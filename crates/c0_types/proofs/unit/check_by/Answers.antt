@@ -13,11 +13,11 @@ use Rattle.c0_tree.specs.View.{decl_view, function_view, struct_view, unit_view}
 use Rattle.c0_meaning.specs.DeclaredTypes.{fault_if}
 use Rattle.c0_meaning.specs.Env.{Env, Shape, shape_of, env_of}
 use Rattle.c0_meaning.specs.Fault.{kept_all, UNIT_TOO_LARGE}
-use Rattle.c0_meaning.specs.Limits.{all_nodes, first_faults, is_first, none_first, whole}
+use Rattle.c0_meaning.specs.Limits.{all_nodes, first_faults, is_first, none_first, whole_span}
 use Rattle.c0_meaning.specs.Resolved.{resolved_decls, resolved_structs}
 use Rattle.c0_name_check.specs.Met.{met_view, mistake_number}
-use Rattle.c0_name_check.proofs.Meeting.{two_met}
-use Rattle.c0_types.specs.Known.{TellUnit, env_in}
+use Rattle.c0_name_check.proofs.FaultsMet.{two_met}
+use Rattle.c0_types.specs.Known.{TellUnit, declarations_env}
 use Rattle.c0_types.specs.Parts.{bodied, bodies_faults, functions_nodes, headed_functions, is_plain_function, outer_faults, outer_unit}
 use Rattle.c0_types.specs.Source.{checked_as, read_function, read_unit}
 use Rattle.c0_types.proofs.UnitMeeting.{whole_unit}
@@ -46,11 +46,11 @@ returns-clause-met c =
     let shapes : List Shape = map shape_of u.structs in
     let rows : List CPrimitive = primitives_of c.args.program in
     let unit : Env = env_of rows (read_unit u) [] in
-    let given : Env = env_in c.deref.result.now c.deref-2.result.now c.deref_mut.result.now c.args.table.now in
+    let given : Env = declarations_env c.deref.result.now c.deref-2.result.now c.deref_mut.result.now c.args.table.now in
     let named : unit_view c.check_outside.new.unit ≡ outer_unit u = c.in_ok-known.ensures.named in
     let functions : map function_view c.deref_mut.result.now ≡ headed_functions shapes 0 u.functions =
     ap (map function_view) c.deref_mut.ensures.value ∙ ap (λ (w : CUnit). w.functions) named in
-    let env : env_in c.deref.result.now c.deref-2.result.now c.deref_mut.result.now c.args.table.now ≡ env_of rows (read_unit u) [] =
+    let env : declarations_env c.deref.result.now c.deref-2.result.now c.deref_mut.result.now c.args.table.now ≡ env_of rows (read_unit u) [] =
     env_outer rows u c.deref.result.now c.deref-2.result.now c.deref_mut.result.now c.args.table.now
     (ap (map struct_view) c.deref.ensures.value ∙ ap (λ (w : CUnit). w.structs) named) (ap (map decl_view) c.deref-2.ensures.value ∙ ap (λ (w : CUnit). w.globals) named)
     functions c.requires.rows in
@@ -60,7 +60,7 @@ returns-clause-met c =
     ap functions_nodes functions ∙ (nodes_headed shapes 0 u.functions ∙ nodes_of_read u.functions) in
     let over : nat_lt 100000 c.in_ok-nodes.nodes ≡ nat_lt 100000 (all_nodes (map read_function u.functions)) =
     over_unit c.in_ok-nodes.nodes (functions_nodes (map function_view c.deref_mut.result.now)) c.in_ok-nodes.ensures.nodes ∙ ap (nat_lt 100000) nodes in
-    let span : c.whole-span.result ≡ whole u.length = c.whole-span.ensures ∙ ap whole (ap (λ (w : CUnit). w.length) named) in
+    let span : c.whole-span.result ≡ whole_span u.length = c.whole-span.ensures ∙ ap whole_span (ap (λ (w : CUnit). w.length) named) in
     let last : map function_view c.deref-3.result.now ≡ (checked_as c.args.program u).functions =
     ap (map function_view) (c.deref-3.ensures.value ∙ with_items_is c.check_outside.new.unit.functions c.check_bodies.new.functions (c.check_bodies.auto.functions ∙ c.deref_mut.ensures.len))
     ∙ (c.in_ok-nodes.ensures.resolved
@@ -71,7 +71,7 @@ returns-clause-met c =
     c.in_ok-known.ensures.met ∙ ap (λ (ps : List CPrimitive). kept_all (met_view c.args.least.now) (outer_faults ps u)) c.requires.rows in
     let inner : met_view c.check_bodies.new.least ≡ kept_all (met_view c.check_outside.new.least) (bodies_faults unit u.functions) =
     c.in_ok-nodes.ensures.met ∙ ap (kept_all (met_view c.check_outside.new.least)) bodies in
-    let large : met_view c.meet_if.new.least ≡ kept_all (met_view c.check_bodies.new.least) (fault_if (nat_lt 100000 (all_nodes (map read_function u.functions))) UNIT_TOO_LARGE (whole u.length)) =
+    let large : met_view c.meet_if.new.least ≡ kept_all (met_view c.check_bodies.new.least) (fault_if (nat_lt 100000 (all_nodes (map read_function u.functions))) UNIT_TOO_LARGE (whole_span u.length)) =
     c.meet_if.ensures
     ∙ (ap (λ (b : Bool). kept_all (met_view c.check_bodies.new.least) (fault_if b UNIT_TOO_LARGE c.whole-span.result)) over
     ∙ ap (λ (s : Span). kept_all (met_view c.check_bodies.new.least) (fault_if (nat_lt 100000 (all_nodes (map read_function u.functions))) UNIT_TOO_LARGE s)) span) in
@@ -85,7 +85,7 @@ returns-clause-met c =
     two_met (met_view c.args.least.now) (met_view c.check_outside.new.least) (met_view c.meet_if-2.new.least) (outer_faults rows u) _ outer
     (two_met (met_view c.check_outside.new.least) (met_view c.check_bodies.new.least) (met_view c.meet_if-2.new.least) (bodies_faults unit u.functions) _ inner
     (two_met (met_view c.check_bodies.new.least) (met_view c.meet_if.new.least) (met_view c.meet_if-2.new.least)
-    (fault_if (nat_lt 100000 (all_nodes (map read_function u.functions))) UNIT_TOO_LARGE (whole u.length)) (first_faults c.args.program (read_unit u)) large first))
+    (fault_if (nat_lt 100000 (all_nodes (map read_function u.functions))) UNIT_TOO_LARGE (whole_span u.length)) (first_faults c.args.program (read_unit u)) large first))
     ∙ (whole_unit c.meeting_is_free_of_order.ensures.joins c.args.program u).met (met_view c.args.least.now)
 
 pub returns-clause-resolved : goal.returns-clause-resolved
@@ -97,7 +97,7 @@ returns-clause-resolved c =
     let named : unit_view c.check_outside.new.unit ≡ outer_unit u = c.in_ok-known.ensures.named in
     let functions : map function_view c.deref_mut.result.now ≡ headed_functions shapes 0 u.functions =
     ap (map function_view) c.deref_mut.ensures.value ∙ ap (λ (w : CUnit). w.functions) named in
-    let env : env_in c.deref.result.now c.deref-2.result.now c.deref_mut.result.now c.args.table.now ≡ env_of rows (read_unit u) [] =
+    let env : declarations_env c.deref.result.now c.deref-2.result.now c.deref_mut.result.now c.args.table.now ≡ env_of rows (read_unit u) [] =
     env_outer rows u c.deref.result.now c.deref-2.result.now c.deref_mut.result.now c.args.table.now
     (ap (map struct_view) c.deref.ensures.value ∙ ap (λ (w : CUnit). w.structs) named) (ap (map decl_view) c.deref-2.ensures.value ∙ ap (λ (w : CUnit). w.globals) named)
     functions c.requires.rows in

@@ -6,7 +6,7 @@ use Rattle.c0_tree.specs.Tree.{CFunction}
 use Rattle.c0_tree.specs.View.{function_view}
 use Rattle.c0_meaning.specs.Fault.{kept_all}
 use Rattle.c0_name_check.specs.Met.{met_view}
-use Rattle.c0_name_check.proofs.Meeting.{kept_all-append}
+use Rattle.c0_name_check.proofs.FaultsMet.{kept_all-append}
 use Rattle.c0_body_check.proofs.InPlace.{rest, rest-all, map-get_or}
 use Rattle.c0_types.specs.Parts.{headed, heading_faults, headings_faults, is_plain_function}
 use Rattle.c0_types.proofs.DeclaredInPlace.{numbered_next, numbered_step, numbered_end}

@@ -13,7 +13,7 @@ use Rattle.c0_tree.specs.View.{decl_view, function_view, struct_view, unit_view}
 use Rattle.c0_meaning.specs.DeclaredTypes.{declared_faults, fault_if}
 use Rattle.c0_meaning.specs.Env.{Shape, shape_of, typed_of}
 use Rattle.c0_meaning.specs.Fault.{kept_all, GLOBALS_TOO_LARGE}
-use Rattle.c0_meaning.specs.Limits.{MAX_GLOBAL_WORDS, whole}
+use Rattle.c0_meaning.specs.Limits.{MAX_GLOBAL_WORDS, whole_span}
 use Rattle.c0_meaning.specs.Names.{struct_name_faults, unit_name_faults}
 use Rattle.c0_meaning.specs.Resolved.{resolved_decls, resolved_structs}
 use Rattle.c0_meaning.specs.Sizes.{struct_sizes}
@@ -109,7 +109,7 @@ returns-clause-met c =
     five_met (met_view c.args.least.now) (met_view c.check_structs.new.least) (met_view c.name_unit.new.least) (met_view c.meet_if.new.least) (met_view c.check_decls.new.least)
     (met_view c.check_headings.new.least)
     (struct_name_faults u.structs ++ structs_faults shapes u.structs) (unit_name_faults (map primitive_view c.args.table.now) u.globals u.functions)
-    (fault_if (nat_lt MAX_GLOBAL_WORDS (all_words shapes (map typed_of u.globals))) GLOBALS_TOO_LARGE (whole u.length))
+    (fault_if (nat_lt MAX_GLOBAL_WORDS (all_words shapes (map typed_of u.globals))) GLOBALS_TOO_LARGE (whole_span u.length))
     (declared_faults shapes u.globals) (headings_faults shapes u.functions)
     (c.in_ok-known.ensures.met ∙ ap (λ (l : List StructDef). kept_all (met_view c.args.least.now)
     (struct_name_faults (map struct_view l) ++ structs_faults (map shape_of (map struct_view l)) (map struct_view l))) c.deref_mut.ensures.value)

@@ -7,7 +7,7 @@ use Rattle.c0_tree.specs.View.{decl_view, unit_view}
 use Rattle.c0_meaning.specs.Env.{typed_of}
 use Rattle.c0_meaning.specs.Sound.{shapes, IsSized, global_words}
 use Rattle.c0_meaning.specs.Words.{all_words}
-use Rattle.c0_unit.proofs.Declared.{few_words}
+use Rattle.c0_unit.proofs.DeclaredWords.{few_words}
 use Rattle.c0_unit.proofs.globals.global_words.Goals as goal
 
 pub decls_words-requires-clause-decls : goal.decls_words-requires-clause-decls

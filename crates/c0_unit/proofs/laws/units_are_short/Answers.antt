@@ -1,6 +1,6 @@
 -- By the words of each function.
 use Rattle.std.proofs.Common.{arith}
-use Rattle.c0_unit.proofs.UnitPlaces.{words_few}
+use Rattle.c0_unit.proofs.UnitAddresses.{words_few}
 use Rattle.c0_unit.proofs.laws.units_are_short.Goals as goal
 
 pub returns : goal.returns

@@ -1,5 +1,5 @@
--- By the parts' places.
-use Rattle.c0_unit.proofs.Standing.{unit_stands}
+-- By the parts' addresses.
+use Rattle.c0_unit.proofs.PartsStand.{unit_stands}
 use Rattle.c0_unit.proofs.laws.units_stand.Goals as goal
 
 pub returns : goal.returns

@@ -1,4 +1,4 @@
-use Rattle.cvm_outside.proofs.Follow.{broken_at}
+use Rattle.cvm_outside.proofs.ScriptsFollow.{broken_at}
 use Rattle.cvm_outside.proofs.script.scripts_break.Goals as goal
 
 pub returns : goal.returns

@@ -1,4 +1,4 @@
-use Rattle.cvm_outside.proofs.Tell.{count}
+use Rattle.cvm_outside.proofs.ScriptsTell.{count}
 use Rattle.cvm_outside.proofs.script.scripts_count.Goals as goal
 
 pub returns : goal.returns

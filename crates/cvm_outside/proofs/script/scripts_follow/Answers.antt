@@ -1,4 +1,4 @@
-use Rattle.cvm_outside.proofs.Follow.{both, first}
+use Rattle.cvm_outside.proofs.ScriptsFollow.{both, first}
 use Rattle.cvm_outside.proofs.script.scripts_follow.Goals as goal
 
 pub returns : goal.returns

@@ -1,4 +1,4 @@
-use Rattle.cvm_outside.proofs.Follow.{given}
+use Rattle.cvm_outside.proofs.ScriptsFollow.{given}
 use Rattle.cvm_outside.proofs.script.scripts_give.Goals as goal
 
 pub returns : goal.returns

@@ -1,5 +1,5 @@
 use Rattle.cvm_outside.specs.Outside.{drive}
-use Rattle.cvm_outside.proofs.Putting.{read_once}
+use Rattle.cvm_outside.proofs.RowsPut.{read_once}
 use Rattle.cvm_outside.proofs.single_calls.read.Goals as goal
 
 pub returns-clause-asks : goal.returns-clause-asks

@@ -1,5 +1,5 @@
 use Rattle.cvm_outside.specs.Outside.{drive}
-use Rattle.cvm_outside.proofs.Putting.{write_once}
+use Rattle.cvm_outside.proofs.RowsPut.{write_once}
 use Rattle.cvm_outside.proofs.single_calls.write.Goals as goal
 
 pub returns : goal.returns

@@ -1,5 +1,5 @@
 -- By the laws that the body calls.
-use Rattle.cvm_primitives.proofs.Calls.{words, stores, copies, resizes}
+use Rattle.cvm_primitives.proofs.MemoryCalls.{words, stores, copies, resizes}
 use Rattle.cvm_primitives.proofs.laws.memory_answers.Goals as goal
 
 pub returns : goal.returns

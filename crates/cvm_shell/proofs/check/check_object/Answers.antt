@@ -5,7 +5,7 @@ use Rattle.run_scripts.specs.Plan.{prints}
 use Rattle.cvm_shell.specs.Stages.{FilesPlan}
 use Rattle.cvm_shell.specs.Views.{check_view}
 use Rattle.cvm_outside.specs.Outside.{files as told_files, output}
-use Rattle.cvm_shell.proofs.Doing.{stop_done, told_done}
+use Rattle.cvm_shell.proofs.StageEnds.{stop_done, told_done}
 use Rattle.cvm_shell.proofs.check.check_object.Goals as goal
 
 pub returns-in-Err : goal.returns-in-Err

@@ -2,7 +2,7 @@
 use Rattle.std.proofs.Common.{ap, ◌∙◌}
 use Rattle.std.proofs.lemmas.Result.{err_from_is_err_and}
 use Rattle.c0_tree.specs.declared.primitive.Program.TheVariants.{User}
-use Rattle.run_scripts.specs.Plan.{program_plan, bytes_of}
+use Rattle.run_scripts.specs.Plan.{program_plan, user_bytes}
 use Rattle.cvm_shell.proofs.CodePlans.{few_for_unit, one_fault, source_fault}
 use Rattle.cvm_shell.proofs.ProgramPlans.{refused_plan, put_plan}
 use Rattle.cvm_shell.proofs.program.compiled_program.Goals as goal
@@ -19,4 +19,4 @@ returns-in_err-words-clause-comes c = λ name.
 
 pub returns-in-Ok-clause-comes : goal.returns-in-Ok-clause-comes
 returns-in-Ok-clause-comes c = λ name.
-    put_plan c.least_fault_is_there.ensures name _ _ _ _ (few_for_unit _ _ c.in_ok-unit.ensures.too_long) c.in_ok-unit.ensures.found c.in_ok-unit.ensures.only c.in_ok-words.ensures.words c.in_ok-words.ensures.most (c.in-Ok.ensures ∙ ap bytes_of c.deref.ensures.value)
+    put_plan c.least_fault_is_there.ensures name _ _ _ _ (few_for_unit _ _ c.in_ok-unit.ensures.too_long) c.in_ok-unit.ensures.found c.in_ok-unit.ensures.only c.in_ok-words.ensures.words c.in_ok-words.ensures.most (c.in-Ok.ensures ∙ ap user_bytes c.deref.ensures.value)

@@ -3,7 +3,7 @@ use Rattle.std.specs.Prelude.{Result}
 use Rattle.std.specs.Global.{Vec}
 use Rattle.cvm_outside.specs.Outside.{files as told_files, output}
 use Rattle.cvm_shell.specs.declared.boot.Stop.{Stop}
-use Rattle.cvm_shell.proofs.Doing.{StageMade, stop_done, put_done}
+use Rattle.cvm_shell.proofs.StageEnds.{StageMade, stop_done, put_done}
 use Rattle.cvm_shell.proofs.putting.put_made.Goals as goal
 
 pub returns-in-Err : goal.returns-in-Err

@@ -2,7 +2,7 @@ use Rattle.std.proofs.Common.{[], ◌∷◌, ℕ, List, ap, ◌∙◌, Err}
 use Rattle.std.specs.Prelude.{Result}
 use Rattle.cvm_outside.specs.Outside.{files as told_files}
 use Rattle.std.proofs.lemmas.Result.{err_from_is_err_and}
-use Rattle.kernel_linker.specs.Accept.{system_of}
+use Rattle.kernel_linker.specs.Accept.{image_system}
 use Rattle.real_layer.specs.Image.{layer_image}
 use Rattle.run_scripts.specs.Command.{save_session}
 use Rattle.run_scripts.specs.Plan.{Plan, boots, AfterThree}
@@ -65,7 +65,7 @@ returns-clause-comes g c =
     let b = file_moved (file v.file) _ c.in_ok-bytes.bytes.items (c.in_ok-schedule.ensures.files v.file ∙ c.in_ok-image.ensures.files v.file) c.in_ok-bytes.ensures.got in
     fetched_plan file (v.boot.image ∷ v.boot.schedule ∷ v.file ∷ []) (c.in_ok-image.image.items ∷ c.in_ok-schedule.schedule.items ∷ c.in_ok-bytes.bytes.items ∷ []) (after (save_session v)) _
     (i.tells, i.short, (s.tells, s.short, (b.tells, b.short, tt)))
-    (three_come layer_image (save_session v) c.in_ok-image.image.items c.in_ok-schedule.schedule.items c.in_ok-bytes.bytes.items (boots (save_session v) (system_of c.in_ok-ready.ready.boot) c.in_ok-ready.ready.schedule)
+    (three_come layer_image (save_session v) c.in_ok-image.image.items c.in_ok-schedule.schedule.items c.in_ok-bytes.bytes.items (boots (save_session v) (image_system c.in_ok-ready.ready.boot) c.in_ok-ready.ready.schedule)
     (rw (c.deref.ensures.value, c.deref-2.ensures.value) at (c.in_ok-ready.ensures.comes (save_session v))))
 
 pub returns-in_err-image-clause-gets : goal.returns-in_err-image-clause-gets

@@ -5,7 +5,7 @@ use Rattle.cvm_shell.specs.declared.boot.Stop.{Stop}
 use Rattle.cvm_shell.specs.Does.{DoesPlan, SaysStop}
 use Rattle.cvm_shell.specs.Stages.{resumable_for}
 use Rattle.cvm_shell.specs.Views.{save_view}
-use Rattle.cvm_shell.proofs.ResumedCalls.{taken_does, untaken_does}
+use Rattle.cvm_shell.proofs.ResumedCalls.{taken_does, untaken_does, stay_both}
 use Rattle.cvm_shell.proofs.resuming.resume_system.Goals as goal
 
 pub returns-in-Ok : goal.returns-in-Ok
@@ -23,6 +23,7 @@ returns g c = λ shelf.
     let r = c.args.resumable in
     let v = save_view c.args.resume.now in
     let P : List ℕ → Type 0 = λ bs. ResumeAnswers r.ready.boot r.ready.schedule v.boot.turns (g.D.Sectors.size c.args.disk.now) bs (Err c.in-Err.fault) in
+    let still = stay_both c.args.out.now c.resume_run.new.out c.args.disk.now c.resume_run.new.disk c.in-Err.ensures.script.none in
     let Q : Stop → Type 0 = λ s. SaysStop g.O.Sink s c.resume_run.new.out c.say_stop.new.out c.say_stop.result in
-    untaken_does g.O.Sink g.D.Sectors r v c.args.out.now c.resume_run.new.out c.say_stop.new.out c.args.disk.now c.resume_run.new.disk shelf c.say_stop.result c.in-Err.ensures.still.0 c.in-Err.ensures.still.1
+    untaken_does g.O.Sink g.D.Sectors r v c.args.out.now c.resume_run.new.out c.say_stop.new.out c.args.disk.now c.resume_run.new.disk shelf c.say_stop.result still.0 still.1
     c.in-Err.fault (subst P c.deref.ensures.value c.in-Err.ensures.answers) (subst Q c.from.ensures c.say_stop.ensures)

@@ -4,7 +4,7 @@ use Rattle.cvm_outside.specs.Outside.{files as told_files, output, drive}
 use Rattle.cvm_shell.specs.Stages.{resumable_for}
 use Rattle.cvm_shell.specs.Views.{save_view}
 use Rattle.cvm_shell.proofs.GotCalls.{beside}
-use Rattle.cvm_shell.proofs.Doing.{found, run_done, stop_done}
+use Rattle.cvm_shell.proofs.StageEnds.{found, run_done, stop_done}
 use Rattle.cvm_shell.proofs.ResumedCalls.{taken_words, taken_short}
 use Rattle.cvm_shell.proofs.StartAnswers.{told_disk}
 use Rattle.cvm_shell.proofs.resuming.run_resume.Goals as goal

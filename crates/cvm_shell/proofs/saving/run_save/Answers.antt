@@ -3,7 +3,7 @@ use Rattle.cvm_shell.specs.Stages.{saveable_for}
 use Rattle.cvm_shell.specs.Views.{save_view}
 use Rattle.cvm_outside.specs.Outside.{files as told_files, output, drive}
 use Rattle.cvm_shell.proofs.GotCalls.{beside}
-use Rattle.cvm_shell.proofs.Doing.{found, run_done, stop_done}
+use Rattle.cvm_shell.proofs.StageEnds.{found, plan_taken, run_done, stop_done}
 use Rattle.cvm_shell.proofs.StartAnswers.{told_disk}
 use Rattle.cvm_shell.proofs.saving.run_save.Goals as goal
 
@@ -15,7 +15,9 @@ returns-in-Ok g c = λ words is.
     c.in-Ok.ensures.comes (λ e. cc) (λ e. cc)
     (found words (save (save_view c.args.save.now)) (beside sink disk (told_files g.S.Shelf c.args.shelf.now)) is c.in-Ok.ensures.bytes
     (told_disk (g.D.Sectors.size c.args.disk.now) (g.D.Sectors.sectors c.args.disk.now) (g.met.D.Sectors.sized c.args.disk.now) c.are_sectors.ensures))
-    (c.in-Ok.ensures.gets sink disk) c.save_system.ensures.taken c.save_system.ensures.does
+    (c.in-Ok.ensures.gets sink disk)
+    (plan_taken c.plans_have_shape.ensures words (save (save_view c.args.save.now)) (saveable_for (save_view c.args.save.now) c.in-Ok.saveable) (beside sink disk (told_files g.S.Shelf c.args.shelf.now))
+    (beside sink disk (told_files g.S.Shelf c.plan_save.new.shelf)) _ _ is c.in-Ok.ensures.comes c.save_system.ensures) c.save_system.ensures
 
 pub returns-in-Err : goal.returns-in-Err
 returns-in-Err g c = λ words is.

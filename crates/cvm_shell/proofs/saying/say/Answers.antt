@@ -1,6 +1,6 @@
 use Rattle.std.proofs.Common.{Ok, Err}
 use Rattle.cvm_outside.specs.Outside.{output}
-use Rattle.cvm_shell.proofs.Doing.{said}
+use Rattle.cvm_shell.proofs.StageEnds.{said}
 use Rattle.cvm_shell.proofs.saying.say.Goals as goal
 
 pub returns-in-Ok : goal.returns-in-Ok

@@ -3,7 +3,7 @@ use Rattle.std.proofs.Common.{◌≡◌, ◌==◌, ◌+◌, false, ◌∷◌, ta
 use Rattle.std.specs.List.{slice_split}
 use Rattle.std.proofs.lemmas.List.Elements.{All-more}
 use Rattle.std.proofs.lemmas.List.Splits.{slice_split_none}
-use Rattle.cvm_text.proofs.Cuts.{slice_split_read, take_rest_of}
+use Rattle.cvm_text.proofs.FirstByteCuts.{slice_split_read, take_rest_of}
 use Rattle.cvm_text.proofs.cutting.cut.Goals as goal
 
 pub returns-then-c-at-clause-split : goal.returns-then-c-at-clause-split

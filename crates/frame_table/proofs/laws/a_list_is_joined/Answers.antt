@@ -1,5 +1,5 @@
 -- By what each instruction does.
-use Rattle.frame_table.proofs.Lists.{joins_list}
+use Rattle.frame_table.proofs.ListEdits.{joins_list}
 use Rattle.frame_table.proofs.laws.a_list_is_joined.Goals as goal
 
 pub returns : goal.returns

@@ -1,5 +1,5 @@
 -- By what each instruction does.
-use Rattle.frame_table.proofs.Lists.{leaves_list}
+use Rattle.frame_table.proofs.ListEdits.{leaves_list}
 use Rattle.frame_table.proofs.laws.a_list_is_left.Goals as goal
 
 pub returns : goal.returns

@@ -6,7 +6,7 @@ use Rattle.layer_map.specs.Map.{ParamsInRange}
 use Rattle.c0_tree.specs.View.{unit_view}
 use Rattle.boot_image.specs.Parts.{ImageParts as Image}
 use Rattle.boot_image.specs.Reading.{answer}
-use Rattle.kernel_linker.specs.Accept.{system_of, words_match, accept_answer}
+use Rattle.kernel_linker.specs.Accept.{image_system, words_match, accept_answer}
 use Rattle.kernel_linker.specs.Linked.{linked, sizes_of}
 use Rattle.kernel_linker.proofs.AcceptSteps.{source_stops, unread_file, wanting, unread_source, forged_image, accepted_image, spelled_params, spelled_users, spelled_sizes}
 use Rattle.kernel_linker.proofs.accepting.accept.Goals as goal
@@ -14,23 +14,23 @@ use Rattle.kernel_linker.proofs.accepting.accept.Goals as goal
 pub returns-in_err-image-clause-is : goal.returns-in_err-image-clause-is
 returns-in_err-image-clause-is g c =
     let p = err_from_is_err_and c.from_residual.result c.from_residual.ensures.1 in
-    unread_file (accept_answer g.M.LayerMaker.made) (λ a. system_of a.boot) (answer c.args.bytes.now) c.from_residual.result p.0 c.in_err-image.field-0.0 p.1 p.2 c.in_err-image.ensures.is
+    unread_file (accept_answer g.M.LayerMaker.made) (λ a. image_system a.boot) (answer c.args.bytes.now) c.from_residual.result p.0 c.in_err-image.field-0.0 p.1 p.2 c.in_err-image.ensures.is
 
 pub returns-in_err-unit-clause-is : goal.returns-in_err-unit-clause-is
 returns-in_err-unit-clause-is g c =
     let p = err_from_is_err_and c.from_residual-in_err-unit.result c.from_residual-in_err-unit.ensures.1 in
     let same : c.deref.result.now ≡ c.in_ok-image.image.source = cc (c.deref.ensures.value, ap (λ (i : Image). i.source) c.image.view_is) in
-    unread_source (accept_answer g.M.LayerMaker.made) (λ a. system_of a.boot) (answer c.args.bytes.now) c.in_ok-image.image c.from_residual-in_err-unit.result p.0 c.in_err-unit.field-0.0 c.deref.result.now (source_stops g.M.LayerMaker.made c.in_ok-image.image c.in_err-unit.field-0.0) c.in_ok-image.ensures.is p.1 p.2 c.in_err-unit.ensures.fault same
+    unread_source (accept_answer g.M.LayerMaker.made) (λ a. image_system a.boot) (answer c.args.bytes.now) c.in_ok-image.image c.from_residual-in_err-unit.result p.0 c.in_err-unit.field-0.0 c.deref.result.now (source_stops g.M.LayerMaker.made c.in_ok-image.image c.in_err-unit.field-0.0) c.in_ok-image.ensures.is p.1 p.2 c.in_err-unit.ensures.fault same
 
 pub returns-in_err-code-clause-is : goal.returns-in_err-code-clause-is
 returns-in_err-code-clause-is g c =
     let p = err_from_is_err_and c.from_residual-in_err-code.result c.from_residual-in_err-code.ensures.1 in
-    wanting (accept_answer g.M.LayerMaker.made) (λ a. system_of a.boot) (answer c.args.bytes.now) c.in_ok-image.image c.from_residual-in_err-code.result p.0 c.in_ok-image.ensures.is p.1 p.2
+    wanting (accept_answer g.M.LayerMaker.made) (λ a. image_system a.boot) (answer c.args.bytes.now) c.in_ok-image.image c.from_residual-in_err-code.result p.0 c.in_ok-image.ensures.is p.1 p.2
 
 pub returns-in_err-joined-clause-is : goal.returns-in_err-joined-clause-is
 returns-in_err-joined-clause-is g c =
     let p = err_from_is_err_and c.from_residual-in_err-joined.result c.from_residual-in_err-joined.ensures.1 in
-    wanting (accept_answer g.M.LayerMaker.made) (λ a. system_of a.boot) (answer c.args.bytes.now) c.in_ok-image.image c.from_residual-in_err-joined.result p.0 c.in_ok-image.ensures.is p.1 p.2
+    wanting (accept_answer g.M.LayerMaker.made) (λ a. image_system a.boot) (answer c.args.bytes.now) c.in_ok-image.image c.from_residual-in_err-joined.result p.0 c.in_ok-image.ensures.is p.1 p.2
 
 pub returns-in_err-check_words-clause-is : goal.returns-in_err-check_words-clause-is
 returns-in_err-check_words-clause-is g c =
@@ -42,7 +42,7 @@ returns-in_err-check_words-clause-is g c =
     let words : c.in_ok-joined.joined.words.items ≡ linked g.M.LayerMaker.made (unit_view c.in_ok-unit.unit) c.in_ok-image.image.params (sizes_of c.in_ok-image.image.users) =
     c.in_ok-joined.ensures.words ∙ (ap (λ (p : Params). linked g.M.LayerMaker.made (unit_view c.in_ok-unit.unit) p (sizes_of (map (λ (u : Vec ℕ Global). u.items) c.deref-3.result.now))) params
     ∙ ap (λ (us : List (List ℕ)). linked g.M.LayerMaker.made (unit_view c.in_ok-unit.unit) c.in_ok-image.image.params (sizes_of us)) lent) in
-    forged_image g.M.LayerMaker.made (λ a. system_of a.boot) (answer c.args.bytes.now) c.in_ok-image.image c.from_residual-in_err-check_words.result p.0 c.in_err-check_words.field-0.0 (unit_view c.in_ok-unit.unit) c.deref.result.now c.deref-4.result.now
+    forged_image g.M.LayerMaker.made (λ a. image_system a.boot) (answer c.args.bytes.now) c.in_ok-image.image c.from_residual-in_err-check_words.result p.0 c.in_err-check_words.field-0.0 (unit_view c.in_ok-unit.unit) c.deref.result.now c.deref-4.result.now
     c.in_ok-image.ensures.is p.1 p.2 c.in_ok-unit.ensures.found same c.in_err-check_words.ensures (c.deref-4.ensures.value ∙ words)
 
 pub link_words-requires-clause-params : goal.link_words-requires-clause-params
@@ -74,5 +74,5 @@ returns-clause-is g c =
     let words : c.in_ok-joined.joined.words.items ≡ linked g.M.LayerMaker.made (unit_view c.in_ok-unit.unit) c.in_ok-image.image.params (sizes_of c.in_ok-image.image.users) =
     c.in_ok-joined.ensures.words ∙ (ap (λ (p : Params). linked g.M.LayerMaker.made (unit_view c.in_ok-unit.unit) p (sizes_of (map (λ (u : Vec ℕ Global). u.items) c.deref-3.result.now))) params
     ∙ ap (λ (us : List (List ℕ)). linked g.M.LayerMaker.made (unit_view c.in_ok-unit.unit) c.in_ok-image.image.params (sizes_of us)) lent) in
-    accepted_image g.M.LayerMaker.made (λ a. system_of a.boot) (answer c.args.bytes.now) c.in_ok-image.image _ (unit_view c.in_ok-unit.unit) c.deref.result.now c.in_ok-joined.joined.words.items (map (λ (u : Vec ℕ Global). u.items) c.image.inside.users.items) c.in_ok-check_words.field-0
+    accepted_image g.M.LayerMaker.made (λ a. image_system a.boot) (answer c.args.bytes.now) c.in_ok-image.image _ (unit_view c.in_ok-unit.unit) c.deref.result.now c.in_ok-joined.joined.words.items (map (λ (u : Vec ℕ Global). u.items) c.image.inside.users.items) c.in_ok-check_words.field-0
     c.in_ok-image.ensures.is c.in_ok-unit.ensures.found same (c.in_ok-check_words.ensures ∙ ap (words_match c.in_ok-image.image) c.deref-4.ensures.value) words users (ap (λ (p : Params). record { params = p; unit = unit_view c.in_ok-unit.unit; words = c.in_ok-joined.joined.words.items; users = map (λ (u : Vec ℕ Global). u.items) c.image.inside.users.items }) params)

@@ -1,7 +1,7 @@
 use Rattle.std.proofs.Common.{◌≤◌, ◌+◌, ◌*◌, length, arith}
 use Rattle.c0_meaning.specs.Limits.{all_nodes}
 use Rattle.c0_tree.specs.View.{unit_view}
-use Rattle.kernel_linker.proofs.Declared.{few_nodes}
+use Rattle.kernel_linker.proofs.UserLists.{few_nodes}
 use Rattle.kernel_linker.proofs.linked.compiled.Goals as goal
 
 pub returns-clause-most : goal.returns-clause-most

@@ -1,7 +1,7 @@
 use Rattle.std.proofs.Common.{ℕ, ◌≡◌, ◌≤◌, List, ap, ◌∙◌, sym, subst}
 use Rattle.std.specs.List.{All}
 use Rattle.layer_map.specs.Map.{Map}
-use Rattle.kernel_linker.proofs.Declared.{sizes_fit}
+use Rattle.kernel_linker.proofs.UserLists.{sizes_fit}
 use Rattle.kernel_linker.proofs.linked.link_words.Goals as goal
 
 pub make-requires-clause-pages : goal.make-requires-clause-pages

@@ -1,5 +1,5 @@
 use Rattle.std.proofs.Common.{ℕ, ◌≡◌, ◌≤◌, List, Vec, Global, length, subst, sym, arith}
-use Rattle.kernel_linker.proofs.Declared.{all_at}
+use Rattle.kernel_linker.proofs.UserLists.{all_at}
 use Rattle.kernel_linker.proofs.linked.sizes.Goals as goal
 
 pub overflow_cast-len : goal.overflow_cast-len

@@ -5,7 +5,7 @@ use Rattle.std.proofs.lemmas.Result.{err_from_is_err_and}
 use Rattle.layer_map.specs.declared.params.Params.{Params}
 use Rattle.layer_map.specs.Map.{ParamsInRange}
 use Rattle.c0_tree.specs.View.{unit_view}
-use Rattle.boot_image.specs.Format.{most_words}
+use Rattle.boot_image.specs.Format.{most_user_words}
 use Rattle.boot_image.specs.Parts.{ImageParts as Image}
 use Rattle.boot_image.specs.Reading.{old_answer}
 use Rattle.kernel_linker.specs.Linked.{linked, sizes_of}
@@ -53,8 +53,8 @@ link_words-requires-clause-short g c =
     let params : c.in_ok-old.old.params ≡ c.old.inside.params = cc (ap (λ (i : Image). i.params) c.old.view_is) in
     let users : map (λ (u : Vec ℕ Global). u.items) c.old.inside.users.items ≡ c.in_ok-old.old.users = cc (ap (λ (i : Image). i.users) c.old.view_is) in
     let lent : map (λ (u : Vec ℕ Global). u.items) c.deref-3.result.now ≡ c.in_ok-old.old.users = ap (map (λ (u : Vec ℕ Global). u.items)) c.deref-3.ensures.value ∙ users in
-    subst (λ (p : Params). All (λ u. length u ≤ most_words p.pages) (map (λ (u : Vec ℕ Global). u.items) c.deref-3.result.now)) params
-    (subst (λ (us : List (List ℕ)). All (λ u. length u ≤ most_words c.in_ok-old.old.params.pages) us) (sym lent) c.in_ok-old.ensures.spelled.0.spelled.system.sizes)
+    subst (λ (p : Params). All (λ u. length u ≤ most_user_words p.pages) (map (λ (u : Vec ℕ Global). u.items) c.deref-3.result.now)) params
+    (subst (λ (us : List (List ℕ)). All (λ u. length u ≤ most_user_words c.in_ok-old.old.params.pages) us) (sym lent) c.in_ok-old.ensures.spelled.0.spelled.system.sizes)
 
 pub returns-clause-is : goal.returns-clause-is
 returns-clause-is g c =

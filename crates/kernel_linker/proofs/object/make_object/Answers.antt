@@ -2,7 +2,7 @@ use Rattle.std.proofs.Common.{◌≤◌, arith}
 use Rattle.c0_tree.specs.Primitives.{kernel_primitives}
 use Rattle.c0_tree.specs.View.{unit_view}
 use Rattle.c0_meaning.specs.Limits.{all_nodes}
-use Rattle.kernel_linker.proofs.Joined.{joined}
+use Rattle.kernel_linker.proofs.JoinedObjects.{joined}
 use Rattle.kernel_linker.proofs.object.make_object.Goals as goal
 
 pub returns-clause-object : goal.returns-clause-object

@@ -3,7 +3,7 @@ use Rattle.std.proofs.Common.{refl}
 use Rattle.page_fault.specs.Code.{handle_page_code}
 use Rattle.cvm_primitives.specs.Laws.{first_word, second_word, copy_steps}
 use Rattle.layer_sharing.specs.Passing.{CopyPassed}
-use Rattle.layer_sharing.proofs.Through.{vm_copy_thru, thru_again}
+use Rattle.layer_sharing.proofs.CopyThrough.{vm_copy_thru, thru_again}
 use Rattle.layer_sharing.proofs.laws.a_copy_passes_its_last_page.Goals as goal
 
 pub returns : goal.returns

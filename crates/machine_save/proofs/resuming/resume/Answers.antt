@@ -1,7 +1,7 @@
 use Rattle.std.proofs.Common.{ℕ, subst}
 use Rattle.boot_run.specs.Pieces.{AreBoots}
 use Rattle.saved_file.specs.Resumable.{wanted}
-use Rattle.machine_save.proofs.Asked.{is_wanted, room_is, taken}
+use Rattle.machine_save.proofs.WantedFiles.{is_wanted, room_is, taken}
 use Rattle.machine_save.proofs.resuming.resume.Goals as goal
 
 pub returns-clause-is : goal.returns-clause-is

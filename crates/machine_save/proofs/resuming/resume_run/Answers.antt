@@ -3,7 +3,7 @@ use Rattle.std.proofs.lemmas.Result.{err_from_is_err_and}
 use Rattle.boot_run.specs.AnyScripts.{RestUntold}
 use Rattle.boot_run.specs.RunCalls.{RestCalls}
 use Rattle.machine_save.proofs.ResumeCalls.{refused_script, resumed_script}
-use Rattle.machine_save.proofs.Resumed.{answers_so, done_few, refused_so}
+use Rattle.machine_save.proofs.ResumeAnswers.{answers_so, done_few, refused_so}
 use Rattle.machine_save.proofs.resuming.resume_run.Goals as goal
 
 pub returns-in_err-run-clause-answers : goal.returns-in_err-run-clause-answers
@@ -32,6 +32,6 @@ returns-clause-script g c =
     g.O.Sink g.D.Sectors c.args.setup.layer c.args.setup.boot c.args.setup.schedule c.args.limits.turns c.args.limits.steps c.args.bytes.now c.args.out.now c.run_on.new.out c.args.disk.now c.run_on.new.disk
     c.boots_hold.ensures.boots c.boots_hold.ensures.taken_up c.are_in_range.ensures.turns c.are_in_range.ensures.steps c.in_ok-run.run' c.run_on.result c.in_ok-run.ensures.is
     (subst (λ d. RestCalls g.O.Sink g.D.Sectors c.in_ok-run.run' (c.args.limits.turns - c.in_ok-run.run'.turns) (c.args.limits.steps - c.in_ok-run.run'.machine.time) (c.args.out.now, d) (c.run_on.new.out, c.run_on.new.disk) c.run_on.result)
-    c.resume.ensures.same c.run_on.ensures.script)
+    c.resume.ensures.same c.run_on.ensures.script.boots)
     (subst (λ d. RestUntold g.O.Sink g.D.Sectors c.in_ok-run.run' (c.args.limits.turns - c.in_ok-run.run'.turns) (c.args.limits.steps - c.in_ok-run.run'.machine.time) (c.args.out.now, d) (c.run_on.new.out, c.run_on.new.disk) c.run_on.result)
-    c.resume.ensures.same c.run_on.ensures.untold)
+    c.resume.ensures.same c.run_on.ensures.script.untold)

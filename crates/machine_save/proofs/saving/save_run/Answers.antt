@@ -1,4 +1,3 @@
-use Rattle.std.proofs.Common.{refl}
 use Rattle.std.proofs.lemmas.Result.{err_from_is_err_and}
 use Rattle.boot_turns.specs.declared.answers.View.TheVariants.{Boot}
 use Rattle.layer_contract.specs.Follows.{loaded}
@@ -7,7 +6,7 @@ use Rattle.boot_run.specs.LoadScript.{load_script}
 use Rattle.boot_run.specs.LoadedPages.{user_pages}
 use Rattle.boot_run.specs.Loading.{system_of}
 use Rattle.boot_run.specs.Whole.{WholeStopped}
-use Rattle.machine_save.proofs.Stopped.{ran_loads, refused_loads, was_unput}
+use Rattle.machine_save.proofs.SaveAnswers.{ran_loads, refused_loads}
 use Rattle.machine_save.proofs.SaveCalls.{save_refused, save_stopped, save_ended, save_told, stopped_words}
 use Rattle.machine_save.proofs.saving.save_run.Goals as goal
 
@@ -20,9 +19,6 @@ pub returns-in-Stopped-clause-loads : goal.returns-in-Stopped-clause-loads
 returns-in-Stopped-clause-loads g c =
     ran_loads g.D.Sectors.size g.D.Sectors.sectors g.D.Sectors.faults g.D.Sectors.calls c.args.setup.boot Boot (pages_needed c.args.setup.boot) (WholeStopped c.args.setup.boot c.args.setup.schedule) c.args.disk.now c.args.out.now c.run_to_save.new.disk c.run_to_save.new.out
     (c.in_ok-run.run', c.in_ok-run.end) c.put_state.result c.put_state.new.out c.in_ok-run.ensures.loads
-
-pub returns-clause-put : goal.returns-clause-put
-returns-clause-put g c = was_unput c.in_ok-run.end _ _ c.in_default.not-Stopped refl
 
 pub returns-clause-loads : goal.returns-clause-loads
 returns-clause-loads g c =
@@ -46,7 +42,7 @@ returns-in-Stopped-clause-script g c =
     (load_script (user_pages (system_of c.args.setup.boot c.args.setup.schedule)) (pages_needed c.args.setup.boot)) c.args.out.now c.run_to_save.new.out c.args.disk.now c.run_to_save.new.disk c.in_ok-run.run' c.in_ok-run.end c.in_ok-run.ensures.script)
     c.boots_hold.ensures.taken_up c.in_ok-run.ensures.loads.loaded.room c.boots_hold.ensures.disk
     c.requires.some c.are_in_range.ensures.turns c.are_in_range.ensures.steps c.requires.room c.boots_hold.ensures.boots c.machines_run.ensures c.turns_are_counted.ensures)
-    c.put_state.ensures.shows c.put_state.ensures.script
+    c.put_state.ensures
 
 pub returns-clause-script : goal.returns-clause-script
 returns-clause-script g c =

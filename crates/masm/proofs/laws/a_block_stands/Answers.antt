@@ -1,5 +1,5 @@
 -- By induction on the list; each instruction of a run may run, so it is there.
-use Rattle.masm.proofs.Standing.{block_stands}
+use Rattle.masm.proofs.BlocksStand.{block_stands}
 use Rattle.masm.proofs.laws.a_block_stands.Goals as goal
 
 pub returns : goal.returns

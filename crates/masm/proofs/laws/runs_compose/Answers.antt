@@ -1,5 +1,5 @@
 -- By induction on the steps.
-use Rattle.masm.proofs.Runs.{runs_compose}
+use Rattle.masm.proofs.RunsCompose.{runs_compose}
 use Rattle.masm.proofs.laws.runs_compose.Goals as goal
 
 pub returns : goal.returns

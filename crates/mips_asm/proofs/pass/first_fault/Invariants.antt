@@ -7,8 +7,8 @@ use Rattle.mips_asm.proofs.pass.first_fault.Given as goal
 
 abbrev pub invariant-loop-seen : goal.invariant-loop-seen
 invariant-loop-seen l =
-    (fault_from (label_of l.places) (λ q. is_some (label_of l.seen q)) l.start l.number l.at (asm_lines l.here)
-    ≡ fault_from (label_of l.places) (λ q. false) 0 1 0 (asm_lines l.text))
+    (fault_from (label_of l.positions) (λ q. is_some (label_of l.seen q)) l.start l.number l.at (asm_lines l.here)
+    ≡ fault_from (label_of l.positions) (λ q. false) 0 1 0 (asm_lines l.text))
     × (l.at < 2 ^ 62) × (l.start + length l.here ≡ length l.text) × (l.number ≤ l.start + 1)
 
 abbrev pub decreases-loop-seen : goal.decreases-loop-seen

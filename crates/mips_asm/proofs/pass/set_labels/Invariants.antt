@@ -9,10 +9,10 @@ use Rattle.mips_asm.proofs.pass.set_labels.Given as goal
 
 abbrev pub invariant-loop-label : goal.invariant-loop-label
 invariant-loop-label l =
-    ((q : List ℕ) → option_or (label_of l.places q) (cond (has (labels_in (colon_parts l.rest)) q) (Some l.at) None)
-    ≡ option_or (label_of l.initial.places q) (cond (has (labels_in (colon_parts l.text)) q) (Some l.at) None))
-    × ((l.twice || repeats_in (λ q. is_some (label_of l.places q)) (labels_in (colon_parts l.rest)))
-    ≡ repeats_in (λ q. is_some (label_of l.initial.places q)) (labels_in (colon_parts l.text)))
+    ((q : List ℕ) → option_or (label_of l.positions q) (cond (has (labels_in (colon_parts l.rest)) q) (Some l.at) None)
+    ≡ option_or (label_of l.initial.positions q) (cond (has (labels_in (colon_parts l.text)) q) (Some l.at) None))
+    × ((l.twice || repeats_in (λ q. is_some (label_of l.positions q)) (labels_in (colon_parts l.rest)))
+    ≡ repeats_in (λ q. is_some (label_of l.initial.positions q)) (labels_in (colon_parts l.text)))
 
 abbrev pub decreases-loop-label : goal.decreases-loop-label
 decreases-loop-label l = length l.rest

@@ -1,5 +1,5 @@
 -- By induction on the number of the first steps.
-use Rattle.mips_table.proofs.Joins.{run_laws}
+use Rattle.mips_table.proofs.RunsJoin.{run_laws}
 use Rattle.mips_table.proofs.runs.code_runs_join.Goals as goal
 
 pub returns : goal.returns

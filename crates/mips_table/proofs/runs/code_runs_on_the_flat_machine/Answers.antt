@@ -1,5 +1,5 @@
 -- By induction on the steps of the code.
-use Rattle.mips_table.proofs.SimulateFlat.{flat_follows}
+use Rattle.mips_table.proofs.FlatSimulates.{flat_follows}
 use Rattle.mips_table.proofs.runs.code_runs_on_the_flat_machine.Goals as goal
 
 pub returns : goal.returns

@@ -1,5 +1,5 @@
 -- By induction on the steps of the code.
-use Rattle.mips_table.proofs.Simulate.{follows}
+use Rattle.mips_table.proofs.MachineSimulates.{follows}
 use Rattle.mips_table.proofs.runs.code_runs_on_the_machine.Goals as goal
 
 pub returns : goal.returns

@@ -1,5 +1,5 @@
 -- By induction on the number of the later steps.
-use Rattle.mips_table.proofs.Joins.{run_sum}
+use Rattle.mips_table.proofs.RunsJoin.{run_sum}
 use Rattle.mips_table.proofs.runs.runs_join.Goals as goal
 
 pub returns : goal.returns

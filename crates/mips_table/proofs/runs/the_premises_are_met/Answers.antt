@@ -1,5 +1,5 @@
 -- By the concrete machines.
-use Rattle.mips_table.proofs.Concrete.{on_machine_met, on_flat_met, raises}
+use Rattle.mips_table.proofs.SampleRuns.{on_machine_met, on_flat_met, raises}
 use Rattle.mips_table.proofs.runs.the_premises_are_met.Goals as goal
 
 pub returns-clause-machine : goal.returns-clause-machine

@@ -1,4 +1,4 @@
-use Rattle.object_file.proofs.Answers.{one_answer}
+use Rattle.object_file.proofs.AnswersAreUnique.{one_answer}
 use Rattle.object_file.proofs.EveryAnswer.{some_answer}
 use Rattle.object_file.proofs.reading.bytes_have_one_answer.Goals as goal
 

@@ -1,5 +1,5 @@
 -- By the law of the block: at most four swaps for the frame at the hand.
-use Rattle.page_fault.proofs.Page.{page_block_is}
+use Rattle.page_fault.proofs.PageBroughtIn.{page_block_is}
 use Rattle.page_fault.proofs.laws.the_block_is_a_page_block.Goals as goal
 
 pub returns : goal.returns

@@ -1,5 +1,5 @@
 -- A share of the zero frame.
-use Rattle.page_model.proofs.Moves.{grows}
+use Rattle.page_model.proofs.MachineMoves.{grows}
 use Rattle.page_model.proofs.laws.growth_stands.Goals as goal
 
 pub returns : goal.returns

@@ -1,5 +1,5 @@
 -- The five words of a list are all that is said of it.
-use Rattle.page_model.proofs.Rows.{rows_are}
+use Rattle.page_model.proofs.ListWords.{rows_are}
 use Rattle.page_model.proofs.laws.rows_tell.Goals as goal
 
 pub returns : goal.returns

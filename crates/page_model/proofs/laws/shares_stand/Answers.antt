@@ -1,5 +1,5 @@
 -- An edit of one entry.
-use Rattle.page_model.proofs.Moves.{shares}
+use Rattle.page_model.proofs.MachineMoves.{shares}
 use Rattle.page_model.proofs.laws.shares_stand.Goals as goal
 
 pub returns : goal.returns

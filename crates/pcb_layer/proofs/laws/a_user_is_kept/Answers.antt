@@ -1,5 +1,5 @@
 -- By parts: the block's address, the registers, the rest.
-use Rattle.pcb_layer.proofs.Users.{keeps_user}
+use Rattle.pcb_layer.proofs.UserKept.{keeps_user}
 use Rattle.pcb_layer.proofs.laws.a_user_is_kept.Goals as goal
 
 pub returns : goal.returns

@@ -1,5 +1,5 @@
 -- By the laws that the body calls.
-use Rattle.pcb_layer.proofs.Users.{saves_user}
+use Rattle.pcb_layer.proofs.UserKept.{saves_user}
 use Rattle.pcb_layer.proofs.laws.a_user_is_saved.Goals as goal
 
 pub returns : goal.returns

@@ -1,5 +1,5 @@
 -- By induction on the number of registers.
-use Rattle.pcb_layer.proofs.Users.{restores_registers}
+use Rattle.pcb_layer.proofs.UserKept.{restores_registers}
 use Rattle.pcb_layer.proofs.laws.registers_are_restored.Goals as goal
 
 pub returns : goal.returns

@@ -1,4 +1,4 @@
-use Rattle.run_scripts.proofs.Promised.{headlines_hold}
+use Rattle.run_scripts.proofs.RunPromises.{headlines_hold}
 use Rattle.run_scripts.proofs.laws.headlines_hold.Goals as goal
 
 pub returns : goal.returns

@@ -1,4 +1,4 @@
-use Rattle.run_scripts.proofs.Promised.{runs_are_complete}
+use Rattle.run_scripts.proofs.RunPromises.{runs_are_complete}
 use Rattle.run_scripts.proofs.laws.runs_are_complete.Goals as goal
 
 pub returns : goal.returns

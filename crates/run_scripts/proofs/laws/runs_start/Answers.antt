@@ -1,7 +1,7 @@
 -- By the laws that the body calls.
 use Rattle.c0_tree.specs.declared.primitive.Program.TheVariants.{Kernel}
 use Rattle.run_scripts.proofs.Accepted.{accepted_of}
-use Rattle.run_scripts.proofs.Starting.{started}
+use Rattle.run_scripts.proofs.RunsStart.{started}
 use Rattle.run_scripts.proofs.laws.runs_start.Goals as goal
 
 pub returns : goal.returns
@@ -10,7 +10,7 @@ returns c = λ words plan session s rows before old a.
       faultless = c.units_are_typed_or_faulty.ensures;
       zeros = c.zeros_have_the_words_of_their_types.ensures;
       short = c.units_are_short.ensures;
-      placed = c.trees_have_places.ensures;
+      placed = c.trees_have_addresses.ensures;
       stand = c.units_stand.ensures;
       kernels = c.units_are_kernels.ensures;
       stay = c.units_stay_typed.ensures.typed;

@@ -1,4 +1,4 @@
-use Rattle.run_scripts.proofs.Joining.{scripts_join}
+use Rattle.run_scripts.proofs.SavesJoin.{scripts_join}
 use Rattle.run_scripts.proofs.laws.scripts_join.Goals as goal
 
 pub returns : goal.returns

@@ -1,4 +1,4 @@
-use Rattle.run_scripts.proofs.Asking.{stack_out_is_not_met}
+use Rattle.run_scripts.proofs.PlansAreAsked.{stack_out_is_not_met}
 use Rattle.run_scripts.proofs.laws.stack_out_is_not_met.Goals as goal
 
 pub returns : goal.returns

@@ -1,4 +1,4 @@
-use Rattle.run_scripts.proofs.Promised.{traces_are_isolated}
+use Rattle.run_scripts.proofs.RunPromises.{traces_are_isolated}
 use Rattle.run_scripts.proofs.laws.traces_are_isolated.Goals as goal
 
 pub returns : goal.returns

@@ -1,4 +1,4 @@
-use Rattle.run_scripts.proofs.Yes.{yes_is_enough}
+use Rattle.run_scripts.proofs.YesIsEnough.{yes_is_enough}
 use Rattle.run_scripts.proofs.laws.yes_is_enough.Goals as goal
 
 pub returns : goal.returns

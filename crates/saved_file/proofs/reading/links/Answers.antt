@@ -8,12 +8,12 @@ pub returns-in_err-link : goal.returns-in_err-link
 returns-in_err-link c =
     let p = err_from_is_err_and c.from_residual.result c.from_residual.ensures.1 in
     rw (p.1, p.2)
-    (sym (c.loop-place.invariant ∙ walk_more (length c.args.words.now) (linked_test c.args.frames c.args.linked.now c.args.words.now) c.loop-place.place (length c.args.linked.now) (Err c.in_err-link.field-0.0) c.loop-place-test.true (sym c.link.ensures ∙ c.in_err-link.was)))
+    (sym (c.loop-position.invariant ∙ walk_more (length c.args.words.now) (linked_test c.args.frames c.args.linked.now c.args.words.now) c.loop-position.position (length c.args.linked.now) (Err c.in_err-link.field-0.0) c.loop-position-test.true (sym c.link.ensures ∙ c.in_err-link.was)))
 
-pub loop-place-preserved : goal.loop-place-preserved
-loop-place-preserved c =
-    c.loop-place.invariant ∙ walk_more (length c.args.words.now) (linked_test c.args.frames c.args.linked.now c.args.words.now) c.loop-place.place (length c.args.linked.now) (Ok c.in_ok-link.field-0) c.loop-place-test.true (sym c.link.ensures ∙ c.in_ok-link.was)
+pub loop-position-preserved : goal.loop-position-preserved
+loop-position-preserved c =
+    c.loop-position.invariant ∙ walk_more (length c.args.words.now) (linked_test c.args.frames c.args.linked.now c.args.words.now) c.loop-position.position (length c.args.linked.now) (Ok c.in_ok-link.field-0) c.loop-position-test.true (sym c.link.ensures ∙ c.in_ok-link.was)
 
 pub returns : goal.returns
 returns c =
-    sym (c.loop-place.invariant ∙ walk_end (length c.args.words.now) (linked_test c.args.frames c.args.linked.now c.args.words.now) c.loop-place.place (length c.args.linked.now) (omega (arith, c.loop-place-test.false)))
+    sym (c.loop-position.invariant ∙ walk_end (length c.args.words.now) (linked_test c.args.frames c.args.linked.now c.args.words.now) c.loop-position.position (length c.args.linked.now) (omega (arith, c.loop-position-test.false)))

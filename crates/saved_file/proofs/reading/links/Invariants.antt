@@ -3,7 +3,7 @@ use Rattle.std.proofs.Common.{◌≡◌, ◌-◌, length}
 use Rattle.saved_file.specs.Tests.{all_tried, each, linked_test}
 use Rattle.saved_file.proofs.reading.links.Given as goal
 
-abbrev pub invariant-loop-place : goal.invariant-loop-place
-invariant-loop-place l =
+abbrev pub invariant-loop-position : goal.invariant-loop-position
+invariant-loop-position l =
     all_tried (length l.words) (each (linked_test l.frames l.linked l.words) 0 (length l.linked))
-    ≡ all_tried (length l.words) (each (linked_test l.frames l.linked l.words) l.place (length l.linked - l.place))
+    ≡ all_tried (length l.words) (each (linked_test l.frames l.linked l.words) l.position (length l.linked - l.position))

@@ -1,5 +1,5 @@
 -- The law on rows follows from that on numbers.
-use Rattle.schedule_file.proofs.Converse.{spelled_back}
+use Rattle.schedule_file.proofs.ReadIsSpelling.{spelled_back}
 use Rattle.schedule_file.proofs.row.read_rows_are_spelled.Goals as goal
 
 pub returns : goal.returns

@@ -7,7 +7,7 @@ use Rattle.frame_store.specs.Words.{frame_of}
 use Rattle.cvm_outside.specs.Script.{done}
 use Rattle.sector_disk.specs.Transfers.{pending_of}
 use Rattle.sector_disk.specs.declared.transfer.Transfer.{Transfer}
-use Rattle.sector_disk.proofs.Ends.{none_is_done, one_is_done, idle_stays, no_read, no_write, reading_later, writing_later, reading_now, writing_now}
+use Rattle.sector_disk.proofs.CommandEnds.{none_is_done, one_is_done, idle_stays, no_read, no_write, reading_later, writing_later, reading_now, writing_now}
 use Rattle.sector_disk.proofs.Disk.count.Goals as goal
 
 pub returns-in-Idle-clause-end : goal.returns-in-Idle-clause-end

@@ -3,7 +3,7 @@ use Rattle.std.proofs.Common.{rules, refl, sym, ap, ◌∙◌}
 use Rattle.mips_table.specs.Device.{is_busy}
 use Rattle.cvm_outside.specs.Script.{done}
 use Rattle.sector_disk.specs.Ports.{Ports}
-use Rattle.sector_disk.proofs.Ends.{none_is_done, idle_stays, not_busy}
+use Rattle.sector_disk.proofs.CommandEnds.{none_is_done, idle_stays, not_busy}
 use Rattle.sector_disk.proofs.Disk.end_step.Goals as goal
 
 pub returns-then-not-is_busy-clause-end : goal.returns-then-not-is_busy-clause-end

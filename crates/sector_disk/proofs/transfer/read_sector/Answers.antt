@@ -2,7 +2,7 @@
 use Rattle.std.proofs.Common.{sym, ap}
 use Rattle.frame_store.specs.Words.{with_frame}
 use Rattle.cvm_outside.specs.Outside.{drive}
-use Rattle.cvm_outside.proofs.Putting.{read_once}
+use Rattle.cvm_outside.proofs.RowsPut.{read_once}
 use Rattle.sector_disk.proofs.transfer.read_sector.Goals as goal
 
 pub returns-clause-frames : goal.returns-clause-frames

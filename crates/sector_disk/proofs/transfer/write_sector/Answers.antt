@@ -1,5 +1,5 @@
 use Rattle.cvm_outside.specs.Outside.{drive}
-use Rattle.cvm_outside.proofs.Putting.{write_once}
+use Rattle.cvm_outside.proofs.RowsPut.{write_once}
 use Rattle.sector_disk.proofs.transfer.write_sector.Goals as goal
 
 pub returns-clause-script : goal.returns-clause-script

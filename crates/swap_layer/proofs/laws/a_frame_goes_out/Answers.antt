@@ -1,5 +1,5 @@
 -- By the laws that the body calls.
-use Rattle.swap_layer.proofs.Swapping.{swaps_out}
+use Rattle.swap_layer.proofs.FramesSwapped.{swaps_out}
 use Rattle.swap_layer.proofs.laws.a_frame_goes_out.Goals as goal
 
 pub returns : goal.returns

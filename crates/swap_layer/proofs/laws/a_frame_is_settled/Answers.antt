@@ -1,5 +1,5 @@
 -- By the laws that the body calls.
-use Rattle.swap_layer.proofs.Swapping.{settles}
+use Rattle.swap_layer.proofs.FramesSwapped.{settles}
 use Rattle.swap_layer.proofs.laws.a_frame_is_settled.Goals as goal
 
 pub returns : goal.returns

@@ -1,5 +1,5 @@
 -- By the laws that the body calls.
-use Rattle.swap_layer.proofs.Swapping.{swaps_in}
+use Rattle.swap_layer.proofs.FramesSwapped.{swaps_in}
 use Rattle.swap_layer.proofs.laws.a_sector_comes_in.Goals as goal
 
 pub returns : goal.returns

@@ -1,5 +1,5 @@
 -- By the laws that the body calls.
-use Rattle.swap_layer.proofs.Swapping.{fetches}
+use Rattle.swap_layer.proofs.FramesSwapped.{fetches}
 use Rattle.swap_layer.proofs.laws.a_sector_is_fetched.Goals as goal
 
 pub returns : goal.returns

@@ -1,5 +1,5 @@
 -- By the laws that the body calls.
-use Rattle.trap_entry.proofs.Faults.{handles}
+use Rattle.trap_entry.proofs.FaultHandled.{handles}
 use Rattle.trap_entry.proofs.laws.a_fault_is_handled.Goals as goal
 
 pub returns : goal.returns

@@ -1,5 +1,5 @@
 -- By the laws that the body calls.
-use Rattle.trap_entry.proofs.Answered.{exiting}
+use Rattle.trap_entry.proofs.DispatchAnswered.{exiting}
 use Rattle.trap_entry.proofs.laws.an_exit_comes.Goals as goal
 
 pub returns : goal.returns

@@ -1,5 +1,5 @@
 -- By the laws that the body calls.
-use Rattle.trap_entry.proofs.Entering.{entering}
+use Rattle.trap_entry.proofs.KernelEntered.{entering}
 use Rattle.trap_entry.proofs.laws.the_kernel_is_entered.Goals as goal
 
 pub returns : goal.returns

@@ -1,5 +1,5 @@
 -- By the laws that the body calls.
-use Rattle.trap_entry.proofs.Entering.{entering_first}
+use Rattle.trap_entry.proofs.KernelEntered.{entering_first}
 use Rattle.trap_entry.proofs.laws.the_kernel_is_entered_first.Goals as goal
 
 pub returns : goal.returns

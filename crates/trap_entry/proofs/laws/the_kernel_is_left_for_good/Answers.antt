@@ -1,5 +1,5 @@
 -- By the laws that the body calls.
-use Rattle.trap_entry.proofs.Answered.{leaving_for_good}
+use Rattle.trap_entry.proofs.DispatchAnswered.{leaving_for_good}
 use Rattle.trap_entry.proofs.laws.the_kernel_is_left_for_good.Goals as goal
 
 pub returns : goal.returns

@@ -20,8 +20,8 @@ with_words code globals = record { params = record { pages = 1; frames = 2; heap
 pub returns : goal.returns
 unfolding with_words
 returns c =
-    let places = c.units_have_places.ensures user_primitives c.args.unit.now c.unit-unit.ensures.well_formed in
-    let stands = c.units_stand.ensures user_primitives (unit_view c.args.unit.now) c.unit-unit.ensures.well_formed (first_number User (unit_view c.args.unit.now)) places.0 places.1 in
+    let addresses = c.units_have_addresses.ensures user_primitives c.args.unit.now c.unit-unit.ensures.well_formed (first_number User (unit_view c.args.unit.now)) in
+    let stands = c.units_stand.ensures user_primitives (unit_view c.args.unit.now) c.unit-unit.ensures.well_formed (first_number User (unit_view c.args.unit.now)) addresses.0 addresses.1 in
     let long : length c.args.code.now ≡ code_words (unit_view c.args.unit.now) =
     ap (λ (ws : List ℕ). length ws) c.requires.code ∙ length-map (unit_code (unit_view c.args.unit.now) (first_number User (unit_view c.args.unit.now))) encoding ∙ stands.words in
     let globals : c.global_words-globals.result ≡ global_words (unit_view c.args.unit.now) =

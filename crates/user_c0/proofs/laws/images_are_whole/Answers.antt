@@ -3,11 +3,11 @@ use Rattle.c0_tree.specs.declared.primitive.Program.TheVariants.{User}
 use Rattle.c0_tree.specs.Primitives.{user_primitives}
 use Rattle.c0_meaning.specs.Limits.{first_number}
 use Rattle.user_c0.proofs.laws.images_are_whole.Goals as goal
-use Rattle.user_c0.proofs.Holding.{fits}
+use Rattle.user_c0.proofs.ImageHolds.{fits}
 use Rattle.user_c0.proofs.ImageWords.{image_long}
 
 pub returns : goal.returns
 returns c = λ u checked.
-    let places = c.trees_have_places.ensures user_primitives u checked.well_formed in
-    let stands = c.units_stand.ensures user_primitives u checked.well_formed (first_number User u) places.0 places.1 in
-    image_long u (fits u places.0 stands)
+    let addresses = c.trees_have_addresses.ensures user_primitives u checked.well_formed (first_number User u) in
+    let stands = c.units_stand.ensures user_primitives u checked.well_formed (first_number User u) addresses.0 addresses.1 in
+    image_long u (fits u addresses.0 stands)

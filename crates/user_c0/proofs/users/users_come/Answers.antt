@@ -1,4 +1,4 @@
-use Rattle.user_c0.proofs.Coming.{users_come}
+use Rattle.user_c0.proofs.UserComes.{users_come}
 use Rattle.user_c0.proofs.users.users_come.Goals as goal
 
 pub returns : goal.returns

@@ -53,7 +53,7 @@ returns-in-Err-clause-leaves g c =
 
 pub invariant_of-result : goal.invariant_of-result
 invariant_of-result g c =
-    let map = c.in_ok-places.ensures.map ∙ c.memory_map.ensures ∙ c.requires.made.same_map in
+    let map = c.in_ok-layout.ensures.map ∙ c.memory_map.ensures ∙ c.requires.made.same_map in
     let long = loaded_long c.args.boot c.args.schedule c.in_ok-machine.machine c.in_ok-machine.ensures in
     let users : c.len.result ≡ length c.args.boot.users.items = c.len.ensures ∙ sym c.as_slice.ensures.len ∙ ap (λ (us : List (Vec ℕ Global)). length us) c.as_slice.ensures.value in (
       subst (λ (m : Held). IsTrue (names_sector c.count-have.result m.hardware.ports.pending)) (sym c.in_ok-machine.ensures) refl,
@@ -61,7 +61,7 @@ invariant_of-result g c =
       record {
         map = map;
         range = subst MapInRange (c.requires.made.same_map ∙ sym map) c.requires.made.range;
-        globals = c.in_ok-places.ensures.globals;
+        globals = c.in_ok-layout.ensures.globals;
         memory = subst (λ (m : Map). memory_words m ≤ length c.in_ok-machine.machine.hardware.memory) (sym map) long;
         sectors = subst (λ n. n ≤ c.count-have.result) c.pages_needed-need.ensures c.in_ok-check_room.ensures.ok;
         users = c.requires.made.users;

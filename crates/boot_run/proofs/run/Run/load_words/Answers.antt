@@ -22,7 +22,7 @@ returns-in-Ok-clause-loaded g c =
     let rows = c.args.setup.schedule in
     let rom = c.args.rom.now in
     let some : 1 ≤ b.params.pages = subst (λ (m : Map). 1 ≤ m.params.pages) c.requires.follows.made.same_map c.requires.follows.made.range.params.a_page in
-    let map = c.in_ok-places.ensures.map ∙ c.memory_map.ensures ∙ c.requires.follows.made.same_map in
+    let map = c.in_ok-layout.ensures.map ∙ c.memory_map.ensures ∙ c.requires.follows.made.same_map in
     let made : c.in_ok-machine.machine ≡ with_rom (memory_frames (map_of (boot_of b))) rom rows = c.in_ok-machine.ensures ∙ ap (λ (m : Map). with_rom (memory_frames m) rom rows) map in
     let stands = stands_from_rom b rows rom c.requires.few (omega arith) c.in_ok-machine.machine (g.D.Sectors.sectors c.args.disk.now) (g.D.Sectors.sectors c.write_pages.new.disk) (g.D.Sectors.size c.args.disk.now) some made
     (written_so b rows c.as_slice-users.result.now c.as_slice-words.result.now b.words.items _ (rom_needed b) (g.D.Sectors.sectors c.args.disk.now) (g.D.Sectors.sectors c.write_pages.new.disk) (tally g.D.Sectors.faults g.D.Sectors.calls c.args.disk.now) (tally g.D.Sectors.faults g.D.Sectors.calls c.write_pages.new.disk)
@@ -58,7 +58,7 @@ pub invariant_of-result : goal.invariant_of-result
 invariant_of-result g c =
     let b = c.args.setup.boot in
     let rows = c.args.setup.schedule in
-    let map = c.in_ok-places.ensures.map ∙ c.memory_map.ensures ∙ c.requires.follows.made.same_map in
+    let map = c.in_ok-layout.ensures.map ∙ c.memory_map.ensures ∙ c.requires.follows.made.same_map in
     let made : c.in_ok-machine.machine ≡ with_rom (memory_frames (map_of (boot_of b))) c.args.rom.now rows = c.in_ok-machine.ensures ∙ ap (λ (m : Map). with_rom (memory_frames m) c.args.rom.now rows) map in
     let whole = rom_whole b rows c.args.rom.now c.requires.few (omega arith) c.in_ok-machine.machine made in
     let long : memory_words (map_of (boot_of b)) ≤ length c.in_ok-machine.machine.hardware.memory = omega (arith, whole) in
@@ -68,7 +68,7 @@ invariant_of-result g c =
       record {
         map = map;
         range = subst MapInRange (c.requires.follows.made.same_map ∙ sym map) c.requires.follows.made.range;
-        globals = c.in_ok-places.ensures.globals;
+        globals = c.in_ok-layout.ensures.globals;
         memory = subst (λ (m : Map). memory_words m ≤ length c.in_ok-machine.machine.hardware.memory) (sym map) long;
         sectors = omega (arith, enough);
         users = c.requires.follows.made.users;

@@ -1,5 +1,5 @@
 use Rattle.std.proofs.Common.{Some, ◌∙◌, ap, sym}
-use Rattle.cvm_outside.proofs.Putting.{puts_same}
+use Rattle.cvm_outside.proofs.RowsPut.{puts_same}
 use Rattle.boot_run.specs.LoadEnds.{Kept}
 use Rattle.boot_run.specs.TurnParts.{rows_before}
 use Rattle.boot_run.proofs.run.Run.put_before.Goals as goal

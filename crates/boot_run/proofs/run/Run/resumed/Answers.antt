@@ -10,7 +10,7 @@ use Rattle.boot_run.proofs.run.Run.resumed.Goals as goal
 
 pub resumed_machine-requires : goal.resumed_machine-requires
 resumed_machine-requires g c =
-    subst (λ (m : Map). AreSaved (memory_words m) c.args.setup.schedule.inputs c.args.from.now) (sym (c.in_ok-places.ensures.map ∙ c.memory_map.ensures ∙ c.requires.follows.made.same_map)) c.requires.words
+    subst (λ (m : Map). AreSaved (memory_words m) c.args.setup.schedule.inputs c.args.from.now) (sym (c.in_ok-layout.ensures.map ∙ c.memory_map.ensures ∙ c.requires.follows.made.same_map)) c.requires.words
 
 pub returns-clause-taken_up : goal.returns-clause-taken_up
 returns-clause-taken_up g c = record {
@@ -32,18 +32,18 @@ returns-clause-taken_up g c = record {
 }
 
 pub returns-clause-memory : goal.returns-clause-memory
-returns-clause-memory g c = c.in_ok-machine.ensures.memory ∙ ap memory_words (c.in_ok-places.ensures.map ∙ c.memory_map.ensures ∙ c.requires.follows.made.same_map)
+returns-clause-memory g c = c.in_ok-machine.ensures.memory ∙ ap memory_words (c.in_ok-layout.ensures.map ∙ c.memory_map.ensures ∙ c.requires.follows.made.same_map)
 
 pub invariant_of-result : goal.invariant_of-result
 invariant_of-result g c =
-    let map = c.in_ok-places.ensures.map ∙ c.memory_map.ensures ∙ c.requires.follows.made.same_map in
-    let long : memory_words c.in_ok-places.places.map ≤ length c.in_ok-machine.machine.hardware.memory = (let same = c.in_ok-machine.ensures.memory in omega (arith, same)) in (
+    let map = c.in_ok-layout.ensures.map ∙ c.memory_map.ensures ∙ c.requires.follows.made.same_map in
+    let long : memory_words c.in_ok-layout.layout.map ≤ length c.in_ok-machine.machine.hardware.memory = (let same = c.in_ok-machine.ensures.memory in omega (arith, same)) in (
       subst (λ (p : Pending). IsTrue (names_sector c.args.count p)) (sym (c.in_ok-machine.ensures.ready []).idle) refl,
       omega (arith, long),
       record {
         map = map;
         range = subst MapInRange (c.requires.follows.made.same_map ∙ sym map) c.requires.follows.made.range;
-        globals = c.in_ok-places.ensures.globals;
+        globals = c.in_ok-layout.ensures.globals;
         memory = long;
         sectors = c.requires.room;
         users = c.requires.follows.made.users;
@@ -52,8 +52,8 @@ invariant_of-result g c =
     )
 
 -- whether there is memory or not
-pub returns-in_err-places-clause-boots : goal.returns-in_err-places-clause-boots
-returns-in_err-places-clause-boots g c = c.systems_can_boot.ensures.loaded c.args.count c.requires.room
+pub returns-in_err-layout-clause-boots : goal.returns-in_err-layout-clause-boots
+returns-in_err-layout-clause-boots g c = c.systems_can_boot.ensures.loaded c.args.count c.requires.room
 
 pub returns-in_err-machine-clause-boots : goal.returns-in_err-machine-clause-boots
 returns-in_err-machine-clause-boots g c = c.systems_can_boot.ensures.loaded c.args.count c.requires.room

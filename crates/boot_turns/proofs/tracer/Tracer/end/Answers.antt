@@ -1,7 +1,7 @@
 use Rattle.std.proofs.Common.{[], false, None}
 use Rattle.std.proofs.lemmas.Result.{err_from_is_err_and}
 use Rattle.cvm_outside.specs.Outside.{output, drive}
-use Rattle.cvm_outside.proofs.Putting.{same_script}
+use Rattle.cvm_outside.proofs.RowsPut.{same_script}
 use Rattle.mips_machine.specs.Machine.{state_of}
 use Rattle.cvm_model.specs.Text.{journal_rows_after}
 use Rattle.boot_turns.specs.Entries.{call_ends}

@@ -1,6 +1,6 @@
 -- The row of a primitive that is no copy is that of its entry.
 use Rattle.std.proofs.Common.{◌∙◌, rules}
-use Rattle.cvm_outside.proofs.Putting.{puts_same}
+use Rattle.cvm_outside.proofs.RowsPut.{puts_same}
 use Rattle.boot_turns.proofs.JournalRows.{set_rows, size_rows, put_rows}
 use Rattle.boot_turns.proofs.EntryRows.{on_any_err, set_is, size_is, put_is, put_text}
 use Rattle.boot_turns.proofs.tracer.Tracer.end_call.Goals as goal

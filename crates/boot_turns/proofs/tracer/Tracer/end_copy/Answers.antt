@@ -1,7 +1,7 @@
 -- What is kept behind the rows of words that were copied is what the primitive's entries leave.
 use Rattle.std.proofs.Common.{◌≡◌, ℕ, List, [], ap, subst, arith}
 use Rattle.cvm_outside.specs.Script.{done}
-use Rattle.cvm_outside.proofs.Putting.{same_script}
+use Rattle.cvm_outside.proofs.RowsPut.{same_script}
 use Rattle.layer_map.specs.declared.params.Params.{Params}
 use Rattle.boot_turns.specs.RowScripts.{ended_script}
 use Rattle.boot_turns.proofs.RowMakes.{ended_copy, ended_far, ended_refused, ended_other}
@@ -9,7 +9,7 @@ use Rattle.boot_turns.proofs.tracer.Tracer.end_copy.Goals.{then-answer-ne1-via-t
 use Rattle.std.specs.Prelude.{OnOk}
 use Rattle.mips_machine.specs.Machine.{state_of}
 use Rattle.boot_turns.specs.declared.tracer.Tracer.{Tracer}
-use Rattle.boot_turns.proofs.Followed.{copied_then}
+use Rattle.boot_turns.proofs.StepRows.{copied_then}
 use Rattle.boot_turns.proofs.tracer.Tracer.end_copy.Goals as goal
 
 pub returns-clause-behind : goal.returns-clause-behind

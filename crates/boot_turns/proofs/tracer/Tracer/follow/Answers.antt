@@ -1,7 +1,7 @@
 -- What is kept behind a step, and its script, by its branch: a turn of the user, a turn of another, a primitive that returned, or nothing.
 use Rattle.std.proofs.Common.{◌≡◌, ℕ, List, [], Bool, true, false, Option, Some, None, refl, sym, ap, ◌∙◌, subst}
 use Rattle.std.specs.Prelude.{IsSome}
-use Rattle.cvm_outside.proofs.Putting.{same_script}
+use Rattle.cvm_outside.proofs.RowsPut.{same_script}
 use Rattle.cvm_outside.specs.Outside.{output, drive}
 use Rattle.cvm_outside.specs.Script.{done}
 use Rattle.cvm_model.specs.Text.{journal_rows_after}
@@ -11,11 +11,11 @@ use Rattle.mips_machine.specs.Machine.{Held, state_of}
 use Rattle.boot_turns.specs.declared.tracer.Entered.{Entered}
 use Rattle.boot_turns.specs.declared.tracer.Tracer.{Tracer}
 use Rattle.boot_turns.specs.declared.completion.Begun.{Begun}
-use Rattle.boot_turns.specs.Completes.{shown}
+use Rattle.boot_turns.specs.Completes.{noted_of}
 use Rattle.boot_turns.specs.Entries.{turn_begins, HasRows}
 use Rattle.boot_turns.specs.Returns.{notes_on, returned}
 use Rattle.std.proofs.lemmas.Result.{err_from_is_err_and}
-use Rattle.boot_turns.proofs.Followed.{own_turn, other_turn, none_returned, kept_then, call_kept}
+use Rattle.boot_turns.proofs.StepRows.{own_turn, other_turn, none_returned, kept_then, call_kept}
 use Rattle.boot_turns.proofs.tracer.Tracer.follow.Goals.{then-began+then-current-self+else-prove+in_ok-begin, then-began+else-current-self, else-began+in-Some+in_ok-end, else-began+in_default}
 use Rattle.boot_turns.proofs.tracer.Tracer.follow.Goals as goal
 
@@ -49,7 +49,7 @@ returns-clause-behind g c = λ ss words e told.
     ]
 
 -- a turn that begins with rows is a dispatch, and else a primitive has returned
-rows_begun : (a : Held) (noted : Option Entered) (b : Begun) (began : Bool) → began ≡ true → b ≡ shown a → b.dispatched ≡ true → HasRows (state_of a []) noted began
+rows_begun : (a : Held) (noted : Option Entered) (b : Begun) (began : Bool) → began ≡ true → b ≡ noted_of a → b.dispatched ≡ true → HasRows (state_of a []) noted began
 rows_begun a noted b began is same d = rw is (ap (λ (n : Begun). n.dispatched) (sym same) ∙ d)
 
 returned_rows : (a : Held) (noted o : Option Entered) (e : Entered) (began : Bool) → began ≡ false → o ≡ returned (state_of a []) noted → o ≡ Some e → HasRows (state_of a []) noted began

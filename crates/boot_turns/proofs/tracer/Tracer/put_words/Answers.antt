@@ -1,8 +1,8 @@
 use Rattle.std.proofs.Common.{◌≡◌, ℕ, ◌+◌, ◌*◌, ◌/◌, [], List, None, Ok, Err, Some, refl, ap, ◌∙◌, arith, rules}
 use Rattle.std.proofs.lemmas.Result.{err_from_is_err_and}
 use Rattle.cvm_outside.specs.Outside.{output, drive}
-use Rattle.cvm_outside.proofs.Follow.{first}
-use Rattle.cvm_outside.proofs.Putting.{loop_none, loop_more, loop_stop, same_script}
+use Rattle.cvm_outside.proofs.ScriptsFollow.{first}
+use Rattle.cvm_outside.proofs.RowsPut.{loop_none, loop_more, loop_stop, same_script}
 use Rattle.cvm_outside.specs.declared.sectors.DiskFault.TheVariants.{Failed}
 use Rattle.mips_machine.specs.Machine.{state_of}
 use Rattle.cvm_model.specs.Paged.{paged_of}
@@ -13,8 +13,8 @@ use Rattle.boot_report.specs.Told.{user_word}
 use Rattle.boot_turns.specs.declared.tracer.Tracer.{Tracer}
 use Rattle.boot_turns.specs.Copies.{copied_kept}
 use Rattle.boot_turns.proofs.RowMakes.{word_made}
-use Rattle.boot_turns.proofs.Reading.{word_is, still_told, as_large}
-use Rattle.boot_turns.proofs.Copying.{put_tracer, keeps_puts, keeps_more}
+use Rattle.boot_turns.proofs.UserWordsRead.{word_is, still_told, as_large}
+use Rattle.boot_turns.proofs.CopiedRows.{put_tracer, keeps_puts, keeps_more}
 use Rattle.boot_turns.proofs.tracer.Tracer.put_words.Given.{Over}
 use Rattle.boot_turns.proofs.tracer.Tracer.put_words.Goals.{After-read_user_word, In_ok-word}
 use Rattle.boot_turns.proofs.tracer.Tracer.put_words.Goals as goal

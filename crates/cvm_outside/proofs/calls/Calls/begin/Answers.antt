@@ -1,7 +1,7 @@
 -- Where no call that is to come fails, this one doesn't.
 use Rattle.std.proofs.Common.{◌≡◌, true, sym, subst, ◌∙◌, arith, rules}
 use Rattle.cvm_outside.specs.Numbering.{Numbering, is_spent}
-use Rattle.cvm_outside.proofs.Spent.{unlisted, spent_later}
+use Rattle.cvm_outside.proofs.CallsToCome.{unlisted, spent_later}
 use Rattle.cvm_outside.proofs.calls.Calls.begin.Goals as goal
 
 pub returns-clause-sure : goal.returns-clause-sure

@@ -4,7 +4,7 @@ use Rattle.std.specs.Prelude.{◌&&◌, is_some}
 use Rattle.cvm_outside.specs.Numbering.{is_spent}
 use Rattle.cvm_outside.specs.Memory.{Placed}
 use Rattle.cvm_outside.specs.Shelves.{placed}
-use Rattle.cvm_outside.proofs.Spent.{still, not_sure}
+use Rattle.cvm_outside.proofs.CallsToCome.{still, not_sure}
 use Rattle.cvm_outside.proofs.mem_shelf.MemShelfShelf.get.Goals as goal
 
 pub returns-then-begin-clause-sure : goal.returns-then-begin-clause-sure

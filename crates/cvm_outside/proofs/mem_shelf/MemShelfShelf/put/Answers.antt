@@ -5,7 +5,7 @@ use Rattle.std.specs.BTreeMap.{get_by_text}
 use Rattle.cvm_outside.specs.Numbering.{is_spent}
 use Rattle.cvm_outside.specs.Shelves.{placed}
 use Rattle.cvm_outside.specs.declared.mem_shelf.MemShelf.{MemShelf}
-use Rattle.cvm_outside.proofs.Spent.{still}
+use Rattle.cvm_outside.proofs.CallsToCome.{still}
 use Rattle.cvm_outside.proofs.mem_shelf.MemShelfShelf.put.Goals.{then-begin-via-then-begin, then-begin-via-else-begin+then-not-put_file}
 use Rattle.cvm_outside.proofs.mem_shelf.MemShelfShelf.put.Goals as goal
 

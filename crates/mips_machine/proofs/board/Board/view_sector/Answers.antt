@@ -1,6 +1,6 @@
 -- The disk is called once.
 use Rattle.cvm_outside.specs.Outside.{drive}
-use Rattle.cvm_outside.proofs.Putting.{read_once}
+use Rattle.cvm_outside.proofs.RowsPut.{read_once}
 use Rattle.mips_machine.proofs.board.Board.view_sector.Goals as goal
 
 pub returns-clause-script : goal.returns-clause-script

@@ -5,8 +5,8 @@ use Rattle.mips_table.specs.Machine.{Coming, Interrupt, come_to}
 use Rattle.mips_step.specs.View.{cpu_of}
 use Rattle.mips_machine.specs.Hardware.{Hardware, state_in, instructed, chosen, IsOfComing}
 use Rattle.mips_machine.specs.Steps.{outside_of}
-use Rattle.mips_machine.proofs.Interrupting.{chosen_reset, chosen_external, chosen_with_sr_0, chosen_without_lines}
-use Rattle.mips_machine.proofs.Execute.{hardware_of}
+use Rattle.mips_machine.proofs.ComingInterrupt.{chosen_reset, chosen_external, chosen_with_sr_0, chosen_without_lines}
+use Rattle.mips_machine.proofs.BoardSteps.{hardware_of}
 use Rattle.mips_machine.proofs.hardware.Hardware.act.Goals as goal
 use Rattle.mips_machine.proofs.hardware.Hardware.act.Goals.{else-special-eq1-via-then-special-eq1+else-self-ne0, else-special-eq1-via-else-special-eq1}
 

@@ -1,7 +1,7 @@
 use Rattle.std.proofs.Common.{[], ◌∷◌, ◌∙◌}
 use Rattle.cvm_primitives.specs.RegisterCode.{con_put_code, con_get_code, con_left_code}
 use Rattle.real_layer.specs.Image.{returning}
-use Rattle.real_layer.proofs.Laying.{lays_more, on_ok}
+use Rattle.real_layer.proofs.RoutinesLaid.{lays_more, on_ok}
 use Rattle.real_layer.proofs.routines.Routines.put_console.Goals as goal
 
 pub returns : goal.returns

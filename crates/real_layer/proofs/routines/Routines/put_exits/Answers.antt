@@ -1,7 +1,7 @@
 use Rattle.std.proofs.Common.{ℕ, List, [], ◌∷◌, ◌∙◌, ap, map}
 use Rattle.mips_table.specs.Encoding.{encoding}
 use Rattle.trap_entry.specs.Code.{exit_with_code}
-use Rattle.real_layer.proofs.Laying.{lays_more, on_ok}
+use Rattle.real_layer.proofs.RoutinesLaid.{lays_more, on_ok}
 use Rattle.real_layer.proofs.routines.Routines.put_exits.Goals as goal
 
 pub returns : goal.returns

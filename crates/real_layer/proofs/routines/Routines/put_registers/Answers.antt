@@ -1,7 +1,7 @@
 use Rattle.std.proofs.Common.{[], ◌∷◌, ◌∙◌}
 use Rattle.cvm_primitives.specs.RegisterCode.{vm_get_code, vm_set_code, vm_size_code}
 use Rattle.real_layer.specs.Image.{returning}
-use Rattle.real_layer.proofs.Laying.{lays_more, on_ok}
+use Rattle.real_layer.proofs.RoutinesLaid.{lays_more, on_ok}
 use Rattle.real_layer.proofs.routines.Routines.put_registers.Goals as goal
 
 pub returns : goal.returns

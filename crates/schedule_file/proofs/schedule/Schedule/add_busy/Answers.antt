@@ -1,7 +1,7 @@
 -- The row keeps the order, and the longest busy time goes on with it.
 use Rattle.std.proofs.Common.{◌≡◌, [], ◌∷◌, ◌++◌, fold, map, max, rules, sym, ap, ◌∙◌, arith}
 use Rattle.std.proofs.lemmas.List.Sorted.{IsNonDecreasingBy-push}
-use Rattle.schedule_file.proofs.Reading.{longest_more}
+use Rattle.schedule_file.proofs.OneLineMore.{longest_more}
 use Rattle.schedule_file.proofs.schedule.Schedule.add_busy.Goals.{in_default-via-in-None-1, in_default-via-in-Some+else-command-last}
 use Rattle.schedule_file.proofs.schedule.Schedule.add_busy.Goals as goal
 

@@ -3,8 +3,8 @@ use Rattle.std.proofs.Common.{◌≡◌, ◌<◌, ◌≤◌, length, get_or, is_
 use Rattle.std.proofs.lemmas.List.{get_or_default}
 use Rattle.std.proofs.lemmas.List.Sorted.{IsPartitionPoint-from_clause, IsPartitionedBy-ltb}
 use Rattle.schedule_file.specs.Rows.{Rows, busy_of, longest}
-use Rattle.schedule_file.proofs.Reading.{time_within}
-use Rattle.schedule_file.proofs.Sought.{busy_there, busy_none, below, not_below}
+use Rattle.schedule_file.proofs.OneLineMore.{time_within}
+use Rattle.schedule_file.proofs.RowsSought.{busy_there, busy_none, below, not_below}
 use Rattle.schedule_file.proofs.schedule.Schedule.busy_of.Goals as goal
 
 pub returns-in-Some-clause-value : goal.returns-in-Some-clause-value

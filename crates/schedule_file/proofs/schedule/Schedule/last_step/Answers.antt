@@ -1,7 +1,7 @@
 -- The steps never fall, so the last row has the greatest; and the bits of rows together are eight.
 use Rattle.std.proofs.Common.{◌<◌, ◌≤◌, ◌^◌, length, sym, ap, ◌∙◌, subst, arith}
 use Rattle.schedule_file.specs.Rows.{Rows, lines_at}
-use Rattle.schedule_file.proofs.Sought.{quiet_after, last_is_greatest, eight_lines}
+use Rattle.schedule_file.proofs.RowsSought.{quiet_after, last_is_greatest, eight_lines}
 use Rattle.schedule_file.proofs.schedule.Schedule.last_step.Goals as goal
 
 pub returns-in-Some-clause-quiet : goal.returns-in-Some-clause-quiet

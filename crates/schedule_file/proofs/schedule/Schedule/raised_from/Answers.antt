@@ -2,7 +2,7 @@
 use Rattle.std.proofs.Common.{◌≤◌, ◌+◌, length, refl, sym, ap, ◌∙◌, subst, arith}
 use Rattle.std.proofs.lemmas.List.{get_or_default}
 use Rattle.schedule_file.specs.Rows.{Rows, lines_at, IsNextAt}
-use Rattle.schedule_file.proofs.Sought.{all_told, next_place}
+use Rattle.schedule_file.proofs.RowsSought.{all_told, next_place}
 use Rattle.schedule_file.proofs.schedule.Schedule.raised_from.Goals as goal
 
 pub loop-next-init : goal.loop-next-init

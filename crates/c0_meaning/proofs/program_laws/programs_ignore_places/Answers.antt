@@ -1,5 +1,0 @@
-use Rattle.c0_meaning.proofs.Bares.{programs_ignore_places}
-use Rattle.c0_meaning.proofs.program_laws.programs_ignore_places.Goals as goal
-
-pub returns : goal.returns
-returns c = programs_ignore_places

@@ -1,0 +1,5 @@
+use Rattle.c0_meaning.proofs.Bares.{dispatches_ignore_spans}
+use Rattle.c0_meaning.proofs.reasoning.dispatches_ignore_spans.Goals as goal
+
+pub returns : goal.returns
+returns g c = dispatches_ignore_spans _ _
