@@ -76,7 +76,7 @@ class Counts(unittest.TestCase):
 
 
 class Believed(unittest.TestCase):
-    """tools/dev/believed counts the laws that README speaks of."""
+    """tools/dev/believed counts the laws that README speaks of, and those of run_scripts that are no clauses of `run`."""
 
     def setUp(self):
         loader = importlib.machinery.SourceFileLoader('believed', os.path.join(pages.TOP, 'tools', 'dev', 'believed'))
@@ -91,6 +91,13 @@ class Believed(unittest.TestCase):
         for _, laws in self.believed.LAWS:
             for crate, path, name in laws:
                 self.assertTrue(self.believed.clauses(crate, path, 'pub fn %s(' % name)[1], name)
+
+    def test_the_laws_of_run_scripts_are_all_counted(self):
+        named = {name for _, laws in self.believed.LAWS for crate, _, name in laws if crate == 'run_scripts'}
+        laws = set(re.findall(r'^pub fn (\w+)\(\)$', stored('run_scripts', 'src/laws.rt'), re.MULTILINE))
+        clauses = set(re.findall(r'^    (\w+)\(\);$', stored('cvm_shell', 'src/lib.rt').split('pub fn run<')[1].split('\n}\n')[0], re.MULTILINE))
+        self.assertEqual(len(clauses), 8)
+        self.assertEqual(named, laws - clauses)
 
     def test_totals_are_the_sums_of_the_tables(self):
         specs, came, beside = self.believed.reach()

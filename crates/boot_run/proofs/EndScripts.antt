@@ -13,16 +13,13 @@ use Rattle.mips_table.specs.Turns.{complete, lines_of_turn, is_end, end_within, 
 use Rattle.schedule_file.specs.Rows.{Rows}
 use Rattle.mips_machine.specs.Steps.{outside_of}
 use Rattle.c0_tree.specs.Tree.{CUnit}
-use Rattle.c0_tree.specs.View.{unit_view}
 use Rattle.c0_meaning.specs.TypedState.{IsTypedState}
 use Rattle.cvm_model.specs.Kernel.{power_of}
 use Rattle.cvm_model.specs.Cvm.{System, Status, Running, Halted, Faulted, Cvm, IsCvm, first_cvm}
 use Rattle.cvm_model.specs.declared.kernel_fault.KernelFault.{KernelFault}
 use Rattle.cvm_model.specs.declared.row.Next.{Next}
 use Rattle.layer_contract.specs.declared.boot.Boot.{Boot as Booted}
-use Rattle.layer_contract.specs.Boots.{boot_of}
 use Rattle.layer_contract.specs.Layer.{Rests}
-use Rattle.boot_turns.specs.Premises.{StartsFrom}
 use Rattle.boot_turns.specs.RunMachines.{RunMachines, MachinesRun}
 use Rattle.boot_turns.specs.TurnEnds.{RestsAfter}
 use Rattle.boot_turns.specs.declared.answers.View.{View}
@@ -37,14 +34,12 @@ use Rattle.boot_run.specs.declared.whole.RunEnd.TheVariants as ends
 use Rattle.boot_run.specs.Closing.{report_by, closing_script}
 use Rattle.boot_run.specs.LoadEnds.{Kept}
 use Rattle.boot_run.specs.Pieces.{Bootable, FirstAt, GoRuns, end_of_fault}
-use Rattle.boot_run.specs.RunCalls.{run_at, begin_script, fault_script, report_script, turns_script, TellsFrom, ReportCalls, GoCalls, of_end, end_by, RunEndsBy, CloseCalls, RestCalls}
-use Rattle.boot_run.specs.RunScript.{rest_script}
+use Rattle.boot_run.specs.RunCalls.{run_at, begin_script, fault_script, report_script, turns_script, ReportCalls, GoCalls, of_end, end_by, end_script, EndPerformsAt, EndPerforms, CloseCalls, SomeMade, LoadedCalls}
 use Rattle.boot_run.specs.Shown.{has_faulted, ended_of}
 use Rattle.boot_run.specs.TurnCalls.{run_around, ReadyAt, KeepsLoad}
 use Rattle.boot_run.proofs.ClosingCalls.{faulted_script}
 use Rattle.boot_run.proofs.GoScripts.{no_sooner, on_there, goes_before, past_tells}
 use Rattle.boot_run.proofs.TurnLoop.{machines}
-use Rattle.boot_run.proofs.ReadingCalls.{of_run_too}
 use Rattle.boot_run.proofs.ScriptParts.{at}
 use Rattle.boot_run.proofs.ScriptsOfTurns.{goes_none}
 
@@ -130,7 +125,7 @@ module _ (counts : TurnLaws) (x : device.Environment) (y : System) (s : State) (
   abbrev end : ℕ
   end = end_within x s turns steps
 
-  pub now_is : IsCvm y (lines_of_turn x s) (complete x s (end_within x s turns steps)) (cvm_at (run_at x y s v turns steps) p (end_within x s turns steps))
+  now_is : IsCvm y (lines_of_turn x s) (complete x s (end_within x s turns steps)) (cvm_at (run_at x y s v turns steps) p (end_within x s turns steps))
   now_is = past.turns (complete x s (end_within x s turns steps)) (omega arith)
 
   rests_so : is_end x s turns (end_within x s turns steps) ≡ true → (f : KernelFault) → (cvm_at (run_at x y s v turns steps) p (end_within x s turns steps)).status ≡ Faulted f → (run x s (end_within x s turns steps)).off ≡ Some (power_of f)
@@ -144,7 +139,7 @@ module _ (counts : TurnLaws) (x : device.Environment) (y : System) (s : State) (
       by (suc n) c h rests is = subst (λ (st : Status). Rests st (run x s (end_within x s turns steps))) is rests.0
 
   -- where it came to its end the whole report is the row of a fault, or another
-  pub closing_is : is_end x s turns (end_within x s turns steps) ≡ true → closing_script (run_at x y s v turns steps) p
+  closing_is : is_end x s turns (end_within x s turns steps) ≡ true → closing_script (run_at x y s v turns steps) p
       ≡ fault_script v (run_at x y s v turns steps) p (end_within x s turns steps) (run x s (end_within x s turns steps)).off (cvm_at (run_at x y s v turns steps) p (end_within x s turns steps)).status
       ++ report_script v (run_at x y s v turns steps) p (end_within x s turns steps) (cvm_at (run_at x y s v turns steps) p (end_within x s turns steps)).status
   closing_is e = closing_parts v (run_at x y s v turns steps) p (end_within x s turns steps) (run x s (end_within x s turns steps)).off (cvm_at (run_at x y s v turns steps) p (end_within x s turns steps)).status (rests_so e)
@@ -163,7 +158,7 @@ module _ (counts : TurnLaws) (x : device.Environment) (y : System) (s : State) (
         (λ e. ap (λ (off : Option ℕ). fault_script v rn p (end_within x s turns steps) off (cvm_at rn p (end_within x s turns steps)).status) (on_there counts x s turns steps e)) parts
 
     -- where it isn't broken off before it has ended, the report follows
-    pub rest_made : (old mid new : Outside) (blamed : Option Who) → is_end x s turns (end_within x s turns steps) ≡ true →
+    rest_made : (old mid new : Outside) (blamed : Option Who) → is_end x s turns (end_within x s turns steps) ≡ true →
         Performs (turns_script (run_at x y s v turns steps) p k t (end_within x s turns steps - t)) old mid None → Performs rep mid new blamed →
         Performs (begin_script (run_at x y s v turns steps) k ++ (steps_script (run_at x y s v turns steps) p t (end_within x s turns steps - t) ++ (if is_end x s turns (end_within x s turns steps) then all else []))) old new blamed
     rest_made old mid new blamed e made report =
@@ -172,7 +167,7 @@ module _ (counts : TurnLaws) (x : device.Environment) (y : System) (s : State) (
         (both a (tail (is_end x s turns (end_within x s turns steps)) rep) old mid new blamed made
         (same_script rep (tail (is_end x s turns (end_within x s turns steps)) rep) mid new blamed (ap (λ (b : Bool). tail b rep) (sym e)) report))
 
-    pub rest_broke : (old new : Outside) (blamed : Option Who) → (blamed ≡ None → is_end x s turns (end_within x s turns steps) ≡ false) →
+    rest_broke : (old new : Outside) (blamed : Option Who) → (blamed ≡ None → is_end x s turns (end_within x s turns steps) ≡ false) →
         Performs (turns_script (run_at x y s v turns steps) p k t (end_within x s turns steps - t)) old new blamed →
         Performs (begin_script (run_at x y s v turns steps) k ++ (steps_script (run_at x y s v turns steps) p t (end_within x s turns steps - t) ++ (if is_end x s turns (end_within x s turns steps) then all else []))) old new blamed
     rest_broke old new blamed none made =
@@ -186,79 +181,82 @@ module _ (counts : TurnLaws) (x : device.Environment) (y : System) (s : State) (
         by (Some whom) none made = first (turns_script (run_at x y s v turns steps) p k t (end_within x s turns steps - t)) (tail (is_end x s turns (end_within x s turns steps)) rep) old new whom made
 
 -- where it was out of steps its run has no end within them
-pub late_none : {L : Type 0} (count : ℕ) (r new : Kept L) (turns budget left : ℕ) (told retold : Option (List (List ℕ))) (f : RunFault) → GoRuns count r turns (run_around r told budget) (run_around new retold left) (Err f) → of_run f ≡ None →
+late_none : {L : Type 0} (count : ℕ) (r new : Kept L) (turns budget left : ℕ) (told retold : Option (List (List ℕ))) (f : RunFault) → GoRuns count r turns (run_around r told budget) (run_around new retold left) (Err f) → of_run f ≡ None →
     (y : System) (s : State) (late held : ℕ) (old : List (List ℕ)) (k t wanted steps : ℕ) (c : Cvm) → Bootable r.boot r.machine.rows count y s late held old → FirstAt (outside_of r.machine.rows count) s k t → 1 ≤ wanted → k + turns ≡ wanted → budget + t ≡ steps →
     ReadyAt (outside_of r.machine.rows count) y s r.view k t c (run_around r told budget) → is_end (outside_of r.machine.rows count) s wanted (end_within (outside_of r.machine.rows count) s wanted steps) ≡ false
 late_none count r new turns budget left told retold StepLimit goes e y s late held old k t wanted steps c p starts some more sum ready = (goes y s late held old k t wanted steps c p starts some more sum ready).none
 late_none count r new turns budget left told retold Disk goes e y s late held old k t wanted steps c p starts some more sum ready = absurd (let h = e in cc)
 late_none count r new turns budget left told retold Sink goes e y s late held old k t wanted steps c p starts some more sum ready = absurd (let h = e in cc)
 
--- THE LOOP FAILED
-pub rest_fails : {L O D T : Type 0} (text : sink_of.Ghosts O) (told : sectors_of.Ghosts D) (r new : Kept L) (o o1 : O) (d d1 : D) (turns budget left : ℕ) (law : (u : CUnit) → MachinesRun (IsTypedState u)) (counts : TurnLaws) (f : RunFault) →
-    GoRuns (told.size d) r turns (run_around r (told.sectors d) budget) (run_around new (told.sectors d1) left) (Err f) → GoCalls {T = T} text told r turns budget (o, d) (o1, d1) (Err f) → RestCalls text told r turns budget (o, d) (o1, d1) (end_of_fault f)
-rest_fails text told r new o o1 d d1 turns budget left law counts f goes calls = record {
-  exact = λ y s late held old k t wanted steps c p starts some more sum ready running past is.
-      let x = outside_of r.machine.rows (told.size d) in
-      let m = machines law r.boot r.machine.rows (told.size d) y s late held old p in
-      let none : of_run f ≡ None → is_end x s wanted (end_within x s wanted steps) ≡ false = λ e. late_none (told.size d) r new turns budget left (told.sectors d) (told.sectors d1) f goes e y s late held old k t wanted steps c p starts some more sum ready in
-      let low : t ≤ end_within x s wanted steps = no_sooner counts x s wanted steps t (omega (arith, sum)) (λ j lt. goes_before x s k t wanted starts (omega (arith, more)) j lt) in
-      record {
-        made = λ shelf. subst (Performs (begin_script (run_at x y s r.view wanted steps) k ++ rest_script (run_at x y s r.view wanted steps) past t) (at text told shelf o d) (at text told shelf o1 d1)) (sym (blames_so f))
-            (rest_broke counts x y s late held m r.view wanted steps past is (closing_script (run_at x y s r.view wanted steps) past) (report_script r.view (run_at x y s r.view wanted steps) past (end_within x s wanted steps) (cvm_at (run_at x y s r.view wanted steps) past (end_within x s wanted steps)).status)
-            (closing_is counts x y s late held m r.view wanted steps past is) k t low (at text told shelf o d) (at text told shelf o1 d1) (of_run f) none
-            (calls.exact y s late held old k t wanted steps c p starts some more sum ready running past is shelf));
-        is = λ e. due f (sym (blames_so f) ∙ e) (is_end x s wanted (end_within x s wanted steps)) (none (sym (blames_so f) ∙ e)) (cvm_at (run_at x y s r.view wanted steps) past (end_within x s wanted steps)).status;
-      };
-  some = (calls.some.0, calls.some.1, λ shelf. subst (Performs calls.some.0 (at text told shelf o d) (at text told shelf o1 d1)) (sym (blames_so f)) (calls.some.2 shelf));
-}
-  where
-    due : (f : RunFault) → of_run f ≡ None → (b : Bool) → b ≡ false → (st : Status) → end_of_fault f ≡ end_by b st
-    due StepLimit e b is st = ap (λ (q : Bool). end_by q st) (sym is)
-    due Disk e b is st = absurd (let h = e in cc)
-    due Sink e b is st = absurd (let h = e in cc)
+-- A LOADED RUN, by which of the calls that close it are made, and how it is due to end
+module _ (part : Status → List Call → List Call) (due : Bool → Status → RunEnd) (spent : (st : Status) → due false st ≡ ends.OutOfSteps)
+    (parts : (v : View) (r : Run) (p : Past) (t : ℕ) (off : Option ℕ) (st : Status) (all report : List Call) → all ≡ fault_script v r p t off st ++ report → part st all ≡ fault_script v r p t off st ++ part st report) where
+  -- THE LOOP FAILED
+  pub rest_fails : {L O D T : Type 0} (text : sink_of.Ghosts O) (told : sectors_of.Ghosts D) (r new : Kept L) (o o1 : O) (d d1 : D) (turns budget left : ℕ) (law : (u : CUnit) → MachinesRun (IsTypedState u)) (counts : TurnLaws) (f : RunFault) →
+      GoRuns (told.size d) r turns (run_around r (told.sectors d) budget) (run_around new (told.sectors d1) left) (Err f) → GoCalls {T = T} text told r turns budget (o, d) (o1, d1) (Err f) → LoadedCalls text told part due r turns budget (o, d) (o1, d1) (end_of_fault f)
+  rest_fails text told r new o o1 d d1 turns budget left law counts f goes calls = record {
+    exact = λ y s late held old k t wanted steps c p starts some more sum ready running past is.
+        let x = outside_of r.machine.rows (told.size d) in
+        let rn : Run = run_at x y s r.view wanted steps in
+        let m = machines law r.boot r.machine.rows (told.size d) y s late held old p in
+        let st : Status = (cvm_at rn past (end_within x s wanted steps)).status in
+        let none : of_run f ≡ None → is_end x s wanted (end_within x s wanted steps) ≡ false = λ e. late_none (told.size d) r new turns budget left (told.sectors d) (told.sectors d1) f goes e y s late held old k t wanted steps c p starts some more sum ready in
+        let low : t ≤ end_within x s wanted steps = no_sooner counts x s wanted steps t (omega (arith, sum)) (λ j lt. goes_before x s k t wanted starts (omega (arith, more)) j lt) in
+        let rep : List Call = report_script r.view rn past (end_within x s wanted steps) st in
+        record {
+          made = λ shelf. subst (Performs (begin_script rn k ++ end_script part rn past t) (at text told shelf o d) (at text told shelf o1 d1)) (sym (blames_so f))
+              (rest_broke counts x y s late held m r.view wanted steps past is (part st (closing_script rn past)) (part st rep)
+              (λ e. parts r.view rn past (end_within x s wanted steps) (run x s (end_within x s wanted steps)).off st (closing_script rn past) rep (closing_is counts x y s late held m r.view wanted steps past is e))
+              k t low (at text told shelf o d) (at text told shelf o1 d1) (of_run f) none
+              (calls.exact y s late held old k t wanted steps c p starts some more sum ready running past is shelf));
+          is = λ e. fault_due f (sym (blames_so f) ∙ e) (is_end x s wanted (end_within x s wanted steps)) (none (sym (blames_so f) ∙ e)) st;
+        };
+    some = (calls.some.0, calls.some.1, λ shelf. subst (Performs calls.some.0 (at text told shelf o d) (at text told shelf o1 d1)) (sym (blames_so f)) (calls.some.2 shelf));
+  }
+    where
+      fault_due : (f : RunFault) → of_run f ≡ None → (b : Bool) → b ≡ false → (st : Status) → end_of_fault f ≡ due b st
+      fault_due StepLimit e b is st = sym (spent st) ∙ ap (λ (q : Bool). due q st) (sym is)
+      fault_due Disk e b is st = absurd (let h = e in cc)
+      fault_due Sink e b is st = absurd (let h = e in cc)
 
--- what closes a run, over these rows and this view and a disk of so many sectors
-abbrev ClosesAt : {L O D : Type 0} → sink_of.Ghosts O → sectors_of.Ghosts D → Kept L → Booted → Rows → View → (size : ℕ) → O → D → O → D → RunEnd → Type 0
-ClosesAt text told r b rows v size o d o1 d1 end =
-    (budget : ℕ) (y : System) (s : State) (late held : ℕ) (k t : ℕ) (c : Cvm) → y.boot ≡ boot_of b → StartsFrom (IsTypedState (unit_view b.unit)) (outside_of rows size) y s late held →
-    ReadyAt (outside_of rows size) y s v (suc k) t c (run_around r (told.sectors d) budget) → (turns steps : ℕ) (p : Past) → TellsFrom (run_at (outside_of rows size) y s v turns steps) p t t →
-    RunEndsBy text told (o, d) (o1, d1) (report_script v (run_at (outside_of rows size) y s v turns steps) p t c.status) (end_by true c.status) end
-
--- OR CAME TO ITS END, and the run is closed
-pub rest_closes : {L O D : Type 0} (text : sink_of.Ghosts O) (told : sectors_of.Ghosts D) (r mid : Kept L) (o o1 o2 : O) (d d1 d2 : D) (turns budget left : ℕ) (law : (u : CUnit) → MachinesRun (IsTypedState u)) (counts : TurnLaws) (e : RunEnd) → KeepsLoad r mid → told.size d1 ≡ told.size d →
-    GoRuns (told.size d) r turns (run_around r (told.sectors d) budget) (run_around mid (told.sectors d1) left) (Ok tt) → GoCalls {T = Unit {0}} text told r turns budget (o, d) (o1, d1) (Ok tt) → CloseCalls text told mid (o1, d1) (o2, d2) e →
-    RestCalls text told r turns budget (o, d) (o2, d2) e
-rest_closes text told r mid o o1 o2 d d1 d2 turns budget left law counts e kept size goes calls closes = record {
-  exact = λ y s late held old k t wanted steps c p starts some more sum ready running past is.
-      let x = outside_of r.machine.rows (told.size d) in
-      let rn : Run = run_at x y s r.view wanted steps in
-      let m = machines law r.boot r.machine.rows (told.size d) y s late held old p in
-      let g = goes y s late held old k t wanted steps c p starts some more sum ready in
-      let end : end_within x s wanted steps ≡ g.at = counts.ends x s wanted steps g.at g.end g.within in
-      let ended : is_end x s wanted (end_within x s wanted steps) ≡ true = ap (is_end x s wanted) end ∙ g.end.here in
-      let low : t ≤ end_within x s wanted steps = no_sooner counts x s wanted steps t (omega (arith, sum)) (λ j lt. goes_before x s k t wanted starts (omega (arith, more)) j lt) in
-      let now : cvm_at rn past (end_within x s wanted steps) ≡ g.past =
-      m.same (complete x s (end_within x s wanted steps)) (cvm_at rn past (end_within x s wanted steps)) g.past (now_is counts x y s late held m r.view wanted steps past is)
-      (subst (λ q. IsCvm y (lines_of_turn x s) q g.past) (sym (ap (complete x s) end ∙ g.ready.stood.all)) g.ready.stood.cvm) in
-      let w = closes_at left y s late held g.count g.at g.past p.same p.starts g.ready wanted steps past (past_tells counts rn past g.at g.at is (omega (arith, end))) in
-      record {
-        made = λ shelf. rest_made counts x y s late held m r.view wanted steps past is (closing_script (run_at x y s r.view wanted steps) past) (report_script r.view (run_at x y s r.view wanted steps) past (end_within x s wanted steps) (cvm_at (run_at x y s r.view wanted steps) past (end_within x s wanted steps)).status)
-            (closing_is counts x y s late held m r.view wanted steps past is) k t low (at text told shelf o d) (at text told shelf o1 d1) (at text told shelf o2 d2) (of_end e) ended
-            (calls.exact y s late held old k t wanted steps c p starts some more sum ready running past is shelf)
-            (same_script (report_script r.view rn past g.at g.past.status) (report_script r.view rn past (end_within x s wanted steps) (cvm_at rn past (end_within x s wanted steps)).status) (at text told shelf o1 d1) (at text told shelf o2 d2) (of_end e)
-            (ap₂ (λ q (st : Status). report_script r.view rn past q st) (sym end) (ap (λ (q : Cvm). q.status) (sym now))) (w.made shelf));
-        is = λ none. w.is none ∙ ap₂ (λ (b : Bool) (st : Status). end_by b st) (sym ended) (ap (λ (q : Cvm). q.status) (sym now));
-      };
-  some = (
-    calls.some.0 ++ closes.some.0,
-    of_both calls.some.0 closes.some.0 calls.some.1 (of_run_too closes.some.0 closes.some.1),
-    λ shelf. both calls.some.0 closes.some.0 (at text told shelf o d) (at text told shelf o1 d1) (at text told shelf o2 d2) (of_end e) (calls.some.2 shelf) (closes.some.2 shelf),
-  );
-}
-  where
-    closes_at : ClosesAt text told mid r.boot r.machine.rows r.view (told.size d) o1 d1 o2 d2 e
-    closes_at =
-        subst (λ (q : ℕ). ClosesAt text told mid r.boot r.machine.rows r.view q o1 d1 o2 d2 e) size
-        (subst (λ (v : View). ClosesAt text told mid r.boot r.machine.rows v (told.size d1) o1 d1 o2 d2 e) kept.view_is
-        (subst (λ (rows : Rows). ClosesAt text told mid r.boot rows mid.view (told.size d1) o1 d1 o2 d2 e) kept.rows_are
-        (subst (λ (b : Booted). ClosesAt text told mid b mid.machine.rows mid.view (told.size d1) o1 d1 o2 d2 e) kept.boot_is closes.exact)))
+  -- OR CAME TO ITS END, and what closes the run is made
+  pub rest_closes : {L O D : Type 0} (text : sink_of.Ghosts O) (told : sectors_of.Ghosts D) (r mid : Kept L) (o o1 o2 : O) (d d1 d2 : D) (turns budget left : ℕ) (law : (u : CUnit) → MachinesRun (IsTypedState u)) (counts : TurnLaws) (e : RunEnd) → KeepsLoad r mid → told.size d1 ≡ told.size d →
+      GoRuns (told.size d) r turns (run_around r (told.sectors d) budget) (run_around mid (told.sectors d1) left) (Ok tt) → GoCalls {T = Unit {0}} text told r turns budget (o, d) (o1, d1) (Ok tt) → EndPerforms text told part due mid (o1, d1) (o2, d2) e → SomeMade text told (o1, d1) (o2, d2) (of_end e) →
+      LoadedCalls text told part due r turns budget (o, d) (o2, d2) e
+  rest_closes text told r mid o o1 o2 d d1 d2 turns budget left law counts e kept size goes calls closes some_closes = record {
+    exact = λ y s late held old k t wanted steps c p starts some more sum ready running past is.
+        let x = outside_of r.machine.rows (told.size d) in
+        let rn : Run = run_at x y s r.view wanted steps in
+        let m = machines law r.boot r.machine.rows (told.size d) y s late held old p in
+        let st : Status = (cvm_at rn past (end_within x s wanted steps)).status in
+        let rep : List Call = report_script r.view rn past (end_within x s wanted steps) st in
+        let g = goes y s late held old k t wanted steps c p starts some more sum ready in
+        let end : end_within x s wanted steps ≡ g.at = counts.ends x s wanted steps g.at g.end g.within in
+        let ended : is_end x s wanted (end_within x s wanted steps) ≡ true = ap (is_end x s wanted) end ∙ g.end.here in
+        let low : t ≤ end_within x s wanted steps = no_sooner counts x s wanted steps t (omega (arith, sum)) (λ j lt. goes_before x s k t wanted starts (omega (arith, more)) j lt) in
+        let now : cvm_at rn past (end_within x s wanted steps) ≡ g.past =
+        m.same (complete x s (end_within x s wanted steps)) (cvm_at rn past (end_within x s wanted steps)) g.past (now_is counts x y s late held m r.view wanted steps past is)
+        (subst (λ q. IsCvm y (lines_of_turn x s) q g.past) (sym (ap (complete x s) end ∙ g.ready.stood.all)) g.ready.stood.cvm) in
+        let w = closes_at left y s late held g.count g.at g.past p.same p.starts g.ready wanted steps past (past_tells counts rn past g.at g.at is (omega (arith, end))) in
+        record {
+          made = λ shelf. rest_made counts x y s late held m r.view wanted steps past is (part st (closing_script rn past)) (part st rep)
+              (λ e. parts r.view rn past (end_within x s wanted steps) (run x s (end_within x s wanted steps)).off st (closing_script rn past) rep (closing_is counts x y s late held m r.view wanted steps past is e))
+              k t low (at text told shelf o d) (at text told shelf o1 d1) (at text told shelf o2 d2) (of_end e) ended
+              (calls.exact y s late held old k t wanted steps c p starts some more sum ready running past is shelf)
+              (same_script (part g.past.status (report_script r.view rn past g.at g.past.status)) (part st rep) (at text told shelf o1 d1) (at text told shelf o2 d2) (of_end e)
+              (ap₂ (λ q (z : Status). part z (report_script r.view rn past q z)) (sym end) (ap (λ (q : Cvm). q.status) (sym now))) (w.made shelf));
+          is = λ none. w.is none ∙ ap₂ (λ (b : Bool) (z : Status). due b z) (sym ended) (ap (λ (q : Cvm). q.status) (sym now));
+        };
+    some = (
+      calls.some.0 ++ some_closes.0,
+      of_both calls.some.0 some_closes.0 calls.some.1 some_closes.1,
+      λ shelf. both calls.some.0 some_closes.0 (at text told shelf o d) (at text told shelf o1 d1) (at text told shelf o2 d2) (of_end e) (calls.some.2 shelf) (some_closes.2 shelf),
+    );
+  }
+    where
+      closes_at : EndPerformsAt text told part due mid r.boot r.machine.rows r.view (told.size d) (o1, d1) (o2, d2) e
+      closes_at =
+          subst (λ (q : ℕ). EndPerformsAt text told part due mid r.boot r.machine.rows r.view q (o1, d1) (o2, d2) e) size
+          (subst (λ (v : View). EndPerformsAt text told part due mid r.boot r.machine.rows v (told.size d1) (o1, d1) (o2, d2) e) kept.view_is
+          (subst (λ (rows : Rows). EndPerformsAt text told part due mid r.boot rows mid.view (told.size d1) (o1, d1) (o2, d2) e) kept.rows_are
+          (subst (λ (b : Booted). EndPerformsAt text told part due mid b mid.machine.rows mid.view (told.size d1) (o1, d1) (o2, d2) e) kept.boot_is closes)))

@@ -1,17 +1,21 @@
--- Pages written one after another: which sector holds what.
-use Rattle.std.proofs.Common.{◌≡◌, ◌≢◌, ℕ, zero, suc, ◌+◌, ◌<◌, ◌≤◌, Bool, true, false, cond, List, [], ◌∷◌, ◌++◌, take, drop, map, length, get_or, set, Option, None, Some, refl, sym, ap, ap₂, ◌∙◌, subst, ⊎_elim, arith, length-set, get_or-set_other, get_or-set_same}
-use Rattle.std.specs.Prelude.{Result, Ok, Err, OnErr}
-use Rattle.std.specs.Option.{option_map}
+-- Pages written one after another: which sector holds what; and words put into memory.
+use Rattle.std.proofs.Common.{◌≡◌, ◌≢◌, ℕ, zero, suc, ◌+◌, ◌<◌, ◌≤◌, true, false, cond, List, [], ◌∷◌, ◌++◌, take, drop, map, length, get_or, set, refl, sym, ap, ◌∙◌, subst, ⊎_elim, arith, length-set, get_or-set_other, get_or-set_same}
 use Rattle.std.specs.List.{range_with_len}
 use Rattle.std.proofs.lemmas.Bool.{cases_lt, cases_eq, cases_Bool, cond_both, cond-true, cond-false}
 use Rattle.std.proofs.lemmas.List.FromFn.{fill_by_all}
 use Rattle.mips_table.specs.Device.{sector_of}
 use Rattle.page_model.specs.Paging.{Pages}
 use Rattle.mips_machine.specs.Machine.{Held}
-use Rattle.boot_run.specs.Loading.{with_page, words_of_page, pages_written, StaysBut, TornAmong}
-use Rattle.boot_run.specs.LoadedPages.{calls_made, with_call}
-use Rattle.boot_run.specs.Writes.{PageTorn}
-use Rattle.cvm_outside.specs.Numbering.{Tally, until_fault}
+use Rattle.boot_run.specs.Loading.{words_of_page}
+
+-- the sectors once a number's page is written, if it is one
+abbrev pub with_page : Pages → List (List ℕ) → ℕ → List (List ℕ)
+with_page p sectors q = cond (p.live q) (set sectors q (words_of_page p q)) sectors
+
+-- and once the pages of the first n numbers are written
+abbrev pub pages_written : Pages → ℕ → List (List ℕ) → List (List ℕ)
+pages_written p zero sectors = sectors
+pages_written p (suc n) sectors = with_page p (pages_written p n sectors) n
 
 pub length-with_page : (p : Pages) (ss : List (List ℕ)) (q : ℕ) → length (with_page p ss q) ≡ length ss
 length-with_page p ss q = cond_both (p.live q) (set ss q (words_of_page p q)) ss (λ xs. length xs ≡ length ss) (λ _. length-set ss q (words_of_page p q)) (λ _. refl)
@@ -54,53 +58,6 @@ written_is p n ss f le pages rest = fill_by_all f (pages_written p n ss) (length
     (λ (ge : n ≤ k). later_page p n ss k ge ∙ rest k ge)
     (cases_lt k n))
 
--- a sector whose number is below those that are written
-early_page : (p : Pages) (n m : ℕ) (ss : List (List ℕ)) (k : ℕ) → k < n → n ≤ m → sector_of (pages_written p m ss) k ≡ sector_of (pages_written p n ss) k
-early_page p n zero ss k lt le = absurd (omega arith)
-early_page p n (suc m) ss k lt le = ⊎_elim
-    (λ (e : n ≡ suc m). ap (λ i. sector_of (pages_written p i ss) k) (sym e))
-    (λ (ne : n ≢ suc m). other_page p (pages_written p m ss) m k (λ e. absurd (omega (arith, e, lt, le, ne))) ∙ early_page p n m ss k lt (omega (arith, ne, le)))
-    (cases_eq n (suc m))
-
--- the page of a number is written
-pub page_written : (p : Pages) (q : ℕ) (told : Option (List (List ℕ))) (page : List ℕ) → p.live q ≡ true → length page ≡ 1024 → ((i : ℕ) → i < 1024 → get_or page i 0 ≡ p.word q i) →
-    option_map (λ ss. set ss q page) told ≡ option_map (λ ss. with_page p ss q) told
-page_written p q None page live long words = refl
-page_written p q (Some ss) page live long words =
-    ap (λ w. Some (set ss q w)) (fill_by_all (p.word q) page 1024 0 long (λ i l. words i l)) ∙ ap Some (sym (cond-true (p.live q) _ _ live))
-
--- the number is no page
-pub page_left : (p : Pages) (q : ℕ) (told : Option (List (List ℕ))) → p.live q ≡ false → told ≡ option_map (λ ss. with_page p ss q) told
-page_left p q None dead = refl
-page_left p q (Some ss) dead = ap Some (sym (cond-false (p.live q) _ _ dead))
-
--- one call more, where the number is a page; and none where it is none
-pub call_made : (live : ℕ → Bool) (q faults made new : ℕ) → live q ≡ true → new ≡ until_fault faults made → new ≡ with_call live faults made q
-call_made live q faults made new there e = e ∙ sym (cond-true (live q) (until_fault faults made) made there)
-
-pub no_call : (live : ℕ → Bool) (q faults made : ℕ) → live q ≡ false → made ≡ with_call live faults made q
-no_call live q faults made dead = sym (cond-false (live q) (until_fault faults made) made dead)
-
--- one more number is done, where no call failed before
-pub calls_more : (live : ℕ → Bool) (m n : ℕ) (made : Tally) (faults mid new : ℕ) → n ≡ m + 1 → faults ≡ made.faults → mid ≡ calls_made live m made → new ≡ with_call live faults mid m →
-    new ≡ calls_made live n made
-calls_more live m n made faults mid new e same h k =
-    k ∙ ap₂ (λ (b c : ℕ). with_call live b c m) same h ∙ (let f : suc m ≡ n = omega (arith, e) in ap (λ i. calls_made live i made) f)
-
--- a sector that may hold anything
-torn_but : (q : ℕ) (words : List ℕ) (told retold : Option (List (List ℕ))) → retold ≡ option_map (λ ss. set ss q words) told → StaysBut q told retold
-torn_but q words None retold e = λ k ne. ap (option_map (λ ss. sector_of ss k)) e
-torn_but q words (Some ss) retold e = λ k ne. ap (option_map (λ ss. sector_of ss k)) e ∙ ap Some (get_or-set_other ss q k words [] ne)
-
-pub page_torn : {T E : Type 0} (r : Result T E) (p : Pages) (q : ℕ) (told retold : Option (List (List ℕ))) (made remade : Tally) → p.live q ≡ true → remade.calls ≡ until_fault made.faults made.calls →
-    OnErr r ((words : List ℕ) × (retold ≡ option_map (λ ss. set ss q words) told)) → OnErr r (PageTorn p q told retold made remade)
-page_torn (Ok v) p q told retold made remade live now h = tt
-page_torn (Err e) p q told retold made remade live now h = record {
-  sectors = torn_but q h.0 told retold h.1;
-  page = live;
-  calls = call_made p.live q made.faults made.calls remade.calls live now;
-}
-
 -- one more word is put over the beginning of a list
 put_word : (ws mem : List ℕ) (i w : ℕ) → i < length ws → length ws ≤ length mem → w ≡ get_or ws i 0 → set (take i ws ++ drop i mem) i w ≡ take (suc i) ws ++ drop (suc i) mem
 put_word [] mem i w lt le e = absurd (omega arith)
@@ -132,36 +89,3 @@ with_memory held memory = record held { hardware = record held.hardware { memory
 
 pub put_step : (held first : Held) (a b : List ℕ) (j w : ℕ) → held ≡ with_memory first a → set a j w ≡ b → with_memory held (set held.hardware.memory j w) ≡ with_memory first b
 put_step held first a b j w e h = subst (λ m. with_memory m (set m.hardware.memory j w) ≡ with_memory first b) (sym e) (ap (with_memory first) h)
-
--- the page of a number that is one stands in its sector, whatever stood there
-page_there : (p : Pages) (q most : ℕ) (ss : List (List ℕ)) → p.live q ≡ true → q < most → most ≤ length ss → sector_of (pages_written p most ss) q ≡ words_of_page p q
-page_there p q most ss live lt le = page_at p most ss q lt le ∙ cond-true (p.live q) (words_of_page p q) (sector_of ss q) live
-
--- where the pages below a number are written, and the write of that one failed
-pub torn_among : (p : Pages) (q most : ℕ) (told mid retold : Option (List (List ℕ))) (made remade : Tally) (faults met : ℕ) → q < most → p.live q ≡ true → mid ≡ option_map (pages_written p q) told → StaysBut q mid retold →
-    faults ≡ made.faults → met ≡ calls_made p.live q made → remade.calls ≡ with_call p.live faults met q → TornAmong most (pages_written p most) told retold p.live made remade
-torn_among p q most told mid retold made remade faults met lt live e h same before now = record {
-  at = q;
-  inside = lt;
-  page = λ a b la lb. page_there p q most a live lt la ∙ sym (page_there p q most b live lt lb);
-  before = λ k l. h k (λ is. absurd (omega (arith, is, l))) ∙ ap (option_map (λ ss. sector_of ss k)) e ∙ early told k l;
-  behind = λ k l. h k (λ is. absurd (omega (arith, is, l))) ∙ ap (option_map (λ ss. sector_of ss k)) e ∙ late told k l;
-  is_live = live;
-  calls = now ∙ ap₂ (λ (b c : ℕ). with_call p.live b c q) same before;
-}
-  where
-    early : (o : Option (List (List ℕ))) (k : ℕ) → k < q → option_map (λ ss. sector_of ss k) (option_map (pages_written p q) o) ≡ option_map (λ ss. sector_of (pages_written p most ss) k) o
-    early None k l = refl
-    early (Some ss) k l = ap Some (sym (early_page p q most ss k l (omega (arith, lt))))
-
-    late : (o : Option (List (List ℕ))) (k : ℕ) → q < k → option_map (λ ss. sector_of ss k) (option_map (pages_written p q) o) ≡ option_map (λ ss. sector_of ss k) o
-    late None k l = refl
-    late (Some ss) k l = ap Some (later_page p q ss k (omega (arith, l)))
-
--- one more page is written
-pub written_more : (p : Pages) (m n : ℕ) (told mid new : Option (List (List ℕ))) → n ≡ m + 1 → mid ≡ option_map (pages_written p m) told → new ≡ option_map (λ ss. with_page p ss m) mid → new ≡ option_map (pages_written p n) told
-written_more p m n told mid new e h k = k ∙ ap (option_map (λ ss. with_page p ss m)) h ∙ both told ∙ (let f : suc m ≡ n = omega (arith, e) in ap (λ i. option_map (pages_written p i) told) f)
-  where
-    both : (told : Option (List (List ℕ))) → option_map (λ ss. with_page p ss m) (option_map (pages_written p m) told) ≡ option_map (pages_written p (suc m)) told
-    both None = refl
-    both (Some ss) = refl

@@ -1,14 +1,13 @@
 -- The scripts by which a report is printed are those of the abstract machine's report, where the machine stands for its state.
-use Rattle.std.proofs.Common.{◌≡◌, ℕ, suc, ◌+◌, ◌-◌, ◌*◌, ◌/◌, ◌%◌, ◌<◌, ◌≤◌, Bool, true, false, ◌&&◌, List, [], ◌∷◌, ◌++◌, length, get_or, take, drop, Option, Some, codes, refl, sym, ap, ap₂, ◌∙◌, arith, get_or-drop, get_or-take, length-drop, lt-ltb}
-use Rattle.std.specs.Prelude.{◌==◌, nat_lt, if◌then◌else◌}
-use Rattle.std.proofs.lemmas.Bool.{eqb-true}
+use Rattle.std.proofs.Common.{◌≡◌, ℕ, suc, ◌+◌, ◌-◌, ◌*◌, ◌<◌, ◌≤◌, List, [], ◌∷◌, ◌++◌, length, get_or, take, drop, Option, Some, codes, refl, sym, ap, ap₂, ◌∙◌, arith, get_or-drop, get_or-take, length-drop}
+use Rattle.std.specs.Prelude.{◌==◌}
 use Rattle.std.proofs.lemmas.List.{length-take-le}
 use Rattle.std.proofs.Math.Nat.{mul-le-mul_right}
-use Rattle.cvm_outside.specs.Script.{Call, Printed, Read, scripts}
+use Rattle.cvm_outside.specs.Script.{Call, Printed, scripts}
 use Rattle.mips_table.specs.Processor.{Cpu}
 use Rattle.mips_table.specs.Flat.{Flat}
 use Rattle.mips_machine.specs.Machine.{Held, state_of}
-use Rattle.layer_map.specs.Map.{Map, memory_frames}
+use Rattle.layer_map.specs.Map.{Map}
 use Rattle.page_model.specs.Paging.{shown_word}
 use Rattle.cvm_model.specs.Kernel.{Core}
 use Rattle.cvm_model.specs.Primitives.{user_of, pages_of}
@@ -34,16 +33,6 @@ page_is words word p room h =
     ∙ ap (texts (λ i. memory_row (1024 * p + i) (get_or part i 0))) (sym many)
     ∙ sym (from_front 0 memory_text memory_row (λ k. refl) (λ k w rest. refl) (1024 * p) (take 1024 (drop (1024 * p) words)))
 
--- A PAGE IS READ WHERE ITS ENTRY SAYS THAT IT IS IN NO FRAME: valid entries name frames of the memory
-reads_same : (m : Map) (held : Held) (ss : List (List ℕ)) (q : ℕ) → EntriesFit m (state_of held ss) → q < m.users * m.params.pages → page_reads m (state_of held []) q ≡ steps.reads_of_page m (state_of held ss) q
-reads_same m held ss q fit lt =
-    by ((paged_of m (state_of held ss)).entry q / 2048 % 2 == 1) (nat_lt ((paged_of m (state_of held ss)).entry q / 4096) (memory_frames m)) (λ v. lt-ltb _ _ (fit q lt (eqb-true _ 1 v)))
-  where
-    by : (v l : Bool) → (v ≡ true → l ≡ true) → (if v && l then [] else Read q ∷ []) ≡ (if v then [] else Read q ∷ [])
-    by true true h = refl
-    by true false h = let e : false ≡ true = h refl in absurd (cc)
-    by false l h = refl
-
 module _ (m : Map) (held : Held) (ss : List (List ℕ)) (c : Core) (running : ℕ) (entries : EntriesFit m (state_of held ss)) where
   -- page p of a user that is told
   module _ (u : ℕ) (some : 1 ≤ u) (most : u ≤ m.users) (t : UserIsTold m held ss c running u) where
@@ -56,7 +45,7 @@ module _ (m : Map) (held : Held) (ss : List (List ℕ)) (c : Core) (running : �
         let few = t.most in
         let rows = mul-le-mul_right {m = suc (u - 1)} {n = m.users} m.params.pages (omega (arith, some, most)) in
         let inside : (u - 1) * m.params.pages + p < m.users * m.params.pages = omega (arith, rows, small, few) in
-        ap₂ (λ (a : List Call) (l : Option (List ℕ)). a ++ Printed l ∷ []) (reads_same m held ss ((u - 1) * m.params.pages + p) entries inside)
+        ap (λ (l : Option (List ℕ)). page_reads m (state_of held ss) ((u - 1) * m.params.pages + p) ++ Printed l ∷ [])
         (shown_is m held ss entries (page_text p) ((u - 1) * m.params.pages + p) inside
         ∙ ap (λ l. Some l) (page_is (user_of c.users u).words (shown_word (paged_of m (state_of held ss)) ((u - 1) * m.params.pages + p)) p (omega (arith, whole, small)) (λ i l. t.word p i small l)))
 

@@ -2,31 +2,32 @@
 use Rattle.std.proofs.Common.{◌≡◌, ℕ, zero, suc, ◌+◌, ◌-◌, ◌*◌, ◌^◌, ◌<◌, ◌≤◌, Bool, true, false, not, List, length, replicate, refl, ap, ◌∙◌, subst, ⊎_elim, arith, length-append, lt-ltb, le-ltb}
 use Rattle.std.specs.Prelude.{is_some, ◌&&◌, ◌||◌, nat_lt, nat_le, Option}
 use Rattle.std.proofs.lemmas.Bool.{cases_lt}
-use Rattle.std.proofs.lemmas.List.{length-map, length-replicate}
+use Rattle.std.proofs.lemmas.List.{length-replicate}
 use Rattle.mips_table.specs.Device.{Environment}
 use Rattle.mips_table.specs.Machine.{State, run}
-use Rattle.mips_table.specs.Turns.{is_on, SumLaws}
+use Rattle.mips_table.specs.Turns.{is_on, SumLaws, TurnLaws}
 use Rattle.mips_table.specs.Steady.{StartSteady, StaysSteady}
 use Rattle.mips_machine.specs.Steps.{outside_of}
 use Rattle.layer_map.specs.Map.{Map, MapInRange, PartsInOrder, MemoryIsWhole, block_at, layer_words, memory_words, memory_frames}
+use Rattle.c0_tree.specs.Tree.{CUnit}
 use Rattle.c0_tree.specs.View.{unit_view}
-use Rattle.c0_meaning.specs.State.{C0State}
 use Rattle.c0_meaning.specs.TypedState.{IsTypedState}
 use Rattle.cvm_model.specs.Cvm.{Boot, System, Status, map_of}
 use Rattle.cvm_model.specs.Primitives.{no_flat}
 use Rattle.cvm_model.specs.Stands.{RunningRelation, is_own}
-use Rattle.layer_contract.specs.Boots.{boot_of}
 use Rattle.layer_contract.specs.Layer.{Rests}
 use Rattle.layer_contract.specs.Follows.{site_of, loaded, loaded_memory}
 use Rattle.layer_contract.specs.Starts.{user_sectors}
 use Rattle.boot_turns.specs.Premises.{StartsFrom}
-use Rattle.saved_file.specs.Resumable.{Wanted, is_left_out}
+use Rattle.boot_turns.specs.RunMachines.{MachinesRun}
+use Rattle.boot_turns.specs.TurnEnds.{Stood}
+use Rattle.saved_file.specs.Resumable.{is_left_out}
 use Rattle.saved_file.specs.Answer.{IsOfRun}
 use Rattle.boot_run.specs.Loading.{system_of}
 use Rattle.boot_run.specs.Resuming.{IsFirst}
-use Rattle.boot_run.specs.SavedFiles.{SavedBootsAreOfRuns}
+use Rattle.boot_run.specs.SavedFiles.{wanted_of, SavedBootsAreOfRuns}
 use Rattle.boot_run.specs.SavedRuns.{SavedAt}
-use Rattle.boot_run.proofs.SavedTakenUp.{steady, stands, can, user_mode, goes_on}
+use Rattle.boot_run.proofs.SavedTakenUp.{stood_there, steady, stands, can, user_mode, goes_on}
 use Rattle.boot_run.proofs.Rejoining.{first_of}
 use Rattle.boot_run.proofs.MemorySize.{stays_whole}
 
@@ -79,30 +80,28 @@ whole_memory b order whole =
     (length-append b.words (replicate (memory_words (map_of b) - length b.words) 0))
     (length-replicate {A = ℕ} (memory_words (map_of b) - length b.words) 0) (room b order) whole.frames
 
--- what a saved machine has to fit to be taken up as this system's, for so many turns, where it has so many users
-abbrev pub wanted_with : System → (users turns : ℕ) → Wanted
-wanted_with y users turns =
-    record { frames = memory_frames (map_of y.boot); users = users; pages = y.boot.params.pages; inputs = y.input; linked = y.boot.words; turns = turns }
-
--- what the laws say of machines and of maps
+-- what the laws say of machines, of runs and of maps
 pub record MachineLaws : Type 0 where
   pub begins : StartSteady
   pub stays : StaysSteady
   pub sums : SumLaws
+  pub counts : TurnLaws
+  pub runs : (u : CUnit) → MachinesRun (IsTypedState u)
   pub order : (m : Map) → MapInRange m → PartsInOrder m
   pub whole : (m : Map) → MapInRange m → MemoryIsWhole m
 
 -- THE MACHINE that was saved of a run of a system is one of its run
-module _ (law : MachineLaws) (Typed : C0State → Type 0) (x : Environment) (y : System) (old : List (List ℕ)) (late held : ℕ) (starts : StartsFrom Typed x y (loaded y old) late held) where
+module _ (law : MachineLaws) (u : CUnit) (x : Environment) (y : System) (old : List (List ℕ)) (late held : ℕ) (starts : StartsFrom (IsTypedState u) x y (loaded y old) late held) where
   abbrev s0 : State
   s0 = loaded y old
 
   pub of_system : (few spent turns : ℕ) (words : List ℕ) (left : List (List ℕ)) (shown : List ℕ) (a : SavedAt x y s0 (suc few) spent words left shown) → suc few ≤ turns → turns < 2 ^ 32 → spent < 2 ^ 64 →
-      IsOfRun x (wanted_with y (length y.boot.users) turns) (run x s0 a.at) (suc few) a.past.core.current
+      IsOfRun x (wanted_of y.boot y.input turns) (run x s0 a.at) (suc few) a.past.core.current
   of_system few spent turns words left shown a more bits limit =
       let first : IsFirst y s0 = first_of law.begins y old in
       let fits = starts.boots.fits in
-      let st : RunningRelation x (site_of y.boot) (run x s0 a.at) a.past.status a.past.core = stands law.stays x y s0 few spent words left shown first a in
+      let there : Stood x y s0 (suc few) a.at a.past = stood_there law.counts law.sums x y s0 late held (law.runs u x y s0 late held starts) few spent words left shown a in
+      let st : RunningRelation x (site_of y.boot) (run x s0 a.at) a.past.status a.past.core = stands law.stays x y s0 few spent words left shown first a there in
       let on : is_on (run x s0 a.at) ≡ true = ap (λ (o : Option ℕ). not (is_some o)) a.on in
       let begun = first.time in
       let time = law.sums.time x s0 a.at on in
@@ -110,17 +109,17 @@ module _ (law : MachineLaws) (Typed : C0State → Type 0) (x : Environment) (y :
       let memory = stays_whole x s0 a.at ∙ whole_memory y.boot (law.order (map_of y.boot) fits.range) (law.whole (map_of y.boot) fits.range) in
       let most = (law.whole (map_of y.boot) fits.range).most in
       let sixty = fits.range.users in
-      let running = goes_on a.past.status (run x s0 a.at) a.on a.stood.rests.0 in
-      let runs = st.users.runs (subst (λ (status : Status). Rests status (run x s0 a.at)) running a.stood.rests.0) in
+      let running = goes_on a.past.status (run x s0 a.at) a.on there.rests.0 in
+      let runs = st.users.runs (subst (λ (status : Status). Rests status (run x s0 a.at)) running there.rests.0) in
       let from = runs.user.0 in
       let to = runs.user.1 in
       let many = st.whole.users in
       let few_inputs = fits.core.input in
       record {
         fits = st.fits;
-        steady = steady law.stays x y s0 few spent words left shown first a;
-        can = can law.stays x y s0 few spent words left shown first a;
-        mode = user_mode law.stays x y s0 few spent words left shown first a;
+        steady = steady law.stays x y s0 few spent words left shown first a there;
+        can = can law.stays x y s0 few spent words left shown first a there;
+        mode = user_mode law.stays x y s0 few spent words left shown first a there;
         time = omega (arith, time, begun, within, limit);
         inputs = omega (arith, few_inputs);
         frames = memory;
@@ -133,9 +132,9 @@ module _ (law : MachineLaws) (Typed : C0State → Type 0) (x : Environment) (y :
         users = omega (arith, to, many, sixty);
         linked = λ place lt out. st.kernel.linked place lt (own_is (map_of y.boot) place sixty out);
         sizes = λ u low high.
-            let there : u ≤ length a.past.core.users = omega (arith, high, many) in
-            let size = st.users.sizes u (low, there) in
-            let few = (st.whole.each (u - 1) no_flat (omega (arith, low, there))).pages in
+            let known : u ≤ length a.past.core.users = omega (arith, high, many) in
+            let size = st.users.sizes u (low, known) in
+            let few = (st.whole.each (u - 1) no_flat (omega (arith, low, known))).pages in
             omega (arith, size, few);
       }
 
@@ -143,7 +142,5 @@ pub are_of_runs : MachineLaws → SavedBootsAreOfRuns
 are_of_runs law b rows count old left (suc k) spent turns words shown p a some more bits limit =
     let x = outside_of rows count in
     let y = system_of b rows in
-    let users : length (boot_of b).users ≡ length b.users.items = length-map b.users.items (λ words. words.items) in
-    subst (λ (n : ℕ). IsOfRun x (wanted_with y n turns) (run x (loaded y old) a.at) (suc k) a.past.core.current) users
-    (of_system law (IsTypedState (unit_view b.unit)) x y old 1 (user_sectors y) p.starts k spent turns words left shown a more bits limit)
+    of_system law (unit_view b.unit) x y old 1 (user_sectors y) p.starts k spent turns words left shown a more bits limit
 are_of_runs law b rows count old left zero spent turns words shown p a some more bits limit = absurd (omega (arith, some))

@@ -1,23 +1,21 @@
 -- Where a run that is to be saved stops.
-use Rattle.std.proofs.Common.{◌≡◌, ℕ, suc, Bool, true, false, not, Option, Some, None, List, Ok, refl, sym, ap, ◌∙◌, subst}
-use Rattle.std.specs.Prelude.{is_some, ◌&&◌, ◌||◌, ◌==◌}
-use Rattle.std.proofs.lemmas.Bool.{eqb-true}
+use Rattle.std.proofs.Common.{◌≡◌, ℕ, suc, false, Option, Some, None, List, Ok, refl, sym, ap, ◌∙◌, subst}
+use Rattle.std.specs.Prelude.{is_some}
 use Rattle.mips_table.specs.Device.{Environment}
 use Rattle.mips_table.specs.Machine.{State, run}
-use Rattle.mips_table.specs.Turns.{in_user, complete, TurnLaws}
+use Rattle.mips_table.specs.Turns.{in_user, lines_of_turn, TurnLaws}
 use Rattle.c0_tree.specs.Tree.{CUnit}
 use Rattle.c0_meaning.specs.TypedState.{IsTypedState}
 use Rattle.schedule_file.specs.Rows.{Rows}
 use Rattle.mips_machine.specs.Machine.{Held, state_of}
 use Rattle.mips_machine.specs.Saved.{saved}
 use Rattle.mips_machine.specs.Steps.{outside_of}
-use Rattle.cvm_model.specs.Cvm.{System, Status, Running, Halted, Faulted}
+use Rattle.cvm_model.specs.Cvm.{System, Status, Running, Halted, Faulted, IsCvm}
 use Rattle.cvm_model.specs.declared.row.Next.{Next}
 use Rattle.cvm_model.specs.Text.{rows_text}
 use Rattle.layer_contract.specs.Layer.{Rests}
 use Rattle.boot_turns.specs.Completes.{state_seen}
 use Rattle.boot_turns.specs.RunMachines.{RunMachines, MachinesRun}
-use Rattle.boot_turns.specs.TurnEnds.{Stood}
 use Rattle.boot_turns.specs.declared.answers.View.{View}
 use Rattle.boot_turns.specs.declared.answers.View.TheVariants.{Boot}
 use Rattle.boot_run.specs.Loading.{system_of}
@@ -27,24 +25,15 @@ use Rattle.boot_run.specs.Saving.{saved_run, RunsToStop, RunStops, StaysThere}
 use Rattle.boot_run.specs.declared.whole.RunEnd.{RunEnd}
 use Rattle.boot_run.specs.TurnCalls.{Around, run_around, KeepsLoad}
 use Rattle.boot_run.specs.Pieces.{Gone, GoRuns}
+use Rattle.boot_run.proofs.SavedTakenUp.{complete_there, on_of}
 use Rattle.boot_run.proofs.TurnToTurn.{running_of}
 use Rattle.boot_run.proofs.TurnLoop.{machines}
 
 -- a machine that runs a user is on
-on_of : (o : Option ℕ) (user : Bool) → (not (is_some o) && user) ≡ true → o ≡ None
-on_of None user h = refl
-on_of (Some v) user h = absurd (cc)
-
 on_at : (s : Status) (z : State) → s ≡ Running → Rests s z → z.off ≡ None
 on_at Running z e r = on_of z.off (in_user z) r
 on_at Halted z e r = absurd (cc)
 on_at (Faulted f) z e r = absurd (cc)
-
--- and where it is the end of so many turns these are complete
-complete_of : (b : Bool) (o : Option ℕ) → o ≡ None → (b || not (not (is_some o))) ≡ true → b ≡ true
-complete_of true o e h = refl
-complete_of false None e h = absurd (cc)
-complete_of false (Some v) e h = absurd (cc)
 
 one_state : (a b : State) → Some a ≡ Some b → a ≡ b
 one_state a b e = cc
@@ -67,7 +56,7 @@ module _ (counts : TurnLaws) (x : Environment) (y : System) (s0 : State) (delay 
     on = on_at g.past.status (run x s0 g.at) running g.ready.stood.rests.0
 
     all : suc g.count ≡ turns
-    all = sym g.ready.stood.all ∙ eqb-true (complete x s0 g.at) turns (complete_of (complete x s0 g.at == turns) (run x s0 g.at).off on g.end.here)
+    all = sym g.ready.stood.all ∙ complete_there x s0 turns g.at g.end on
 
     -- the words of the saved run
     pub saved_at : (words : List ℕ) → words ≡ saved y.input (run x s0 g.at) turns g.past.core.current → (now : List (List ℕ)) → now ≡ (run x s0 g.at).device.sectors → SavedAt x y s0 turns steps words now (rows_text g.past.rows)
@@ -77,7 +66,7 @@ module _ (counts : TurnLaws) (x : Environment) (y : System) (s0 : State) (delay 
       end = g.end;
       within = g.within;
       on = on;
-      stood = subst (λ k. Stood x y s0 k g.at g.past) all g.ready.stood;
+      cvm = subst (λ (k : ℕ). IsCvm y (lines_of_turn x s0) k g.past) all g.ready.stood.cvm;
       words_are = are;
       left_is = is;
       shown_is = refl;

@@ -1,5 +1,5 @@
 -- The scripts of a load, and of a call that loads a run and makes it.
-use Rattle.std.proofs.Common.{◌≡◌, ℕ, ◌+◌, ◌≤◌, true, Some, List, [], ◌++◌, Ok, Err, refl, sym, ap, ◌∙◌, subst, arith, append-nil, append_assoc}
+use Rattle.std.proofs.Common.{◌≡◌, ℕ, ◌+◌, ◌≤◌, true, Some, List, [], ◌++◌, Ok, Err, refl, sym, ap, subst, arith, append-nil, append_assoc}
 use Rattle.cvm_outside.specs.Outside.{Files, output}
 use Rattle.cvm_outside.specs.declared.sink.Sink as sink_of
 use Rattle.cvm_outside.specs.declared.sectors.Sectors as sectors_of
@@ -11,18 +11,19 @@ use Rattle.mips_table.specs.Machine.{State}
 use Rattle.schedule_file.specs.Rows.{Rows}
 use Rattle.mips_machine.specs.Steps.{outside_of}
 use Rattle.page_model.specs.Paging.{Pages}
-use Rattle.cvm_model.specs.Cvm.{System, Running, Cvm, first_cvm}
+use Rattle.cvm_model.specs.Cvm.{System, first_cvm}
 use Rattle.layer_contract.specs.declared.boot.Boot.{Boot as Booted}
 use Rattle.boot_turns.specs.declared.answers.View.{View}
-use Rattle.boot_turns.specs.Runs.{Run, Past, IsPast}
+use Rattle.boot_turns.specs.Runs.{Run}
 use Rattle.boot_run.specs.declared.load.LoadFault.{LoadFault}
 use Rattle.boot_run.specs.declared.load.LoadFault.TheVariants as load
 use Rattle.boot_run.specs.declared.whole.RunEnd.{RunEnd}
-use Rattle.boot_run.specs.LoadEnds.{Kept, IsFresh}
+use Rattle.boot_run.specs.LoadEnds.{Kept, IsFresh, LoadFails}
+use Rattle.boot_run.specs.Loaded.{Load}
 use Rattle.boot_run.specs.LoadScript.{load_script}
 use Rattle.boot_run.specs.Loading.{system_of}
-use Rattle.boot_run.specs.Pieces.{Bootable, FirstAt}
-use Rattle.boot_run.specs.RunCalls.{run_at, begin_script, of_load, loads, LoadCalls, of_end, due_end, RunEndsBy, RestCalls, WholeScript}
+use Rattle.boot_run.specs.Pieces.{Bootable}
+use Rattle.boot_run.specs.RunCalls.{run_at, of_load, LoadCalls, of_end, RestCalls, WholeScript, end_by, all_calls, RunPerformsAt, begins, LoadsRun}
 use Rattle.boot_run.specs.RunScript.{rest_script, run_script}
 use Rattle.boot_run.specs.Closing.{opening_script}
 use Rattle.boot_run.specs.TurnCalls.{run_around, ReadyAt, StandsReady}
@@ -43,17 +44,16 @@ module _ {D : Type 0} (told : sectors_of.Ghosts D) (d d1 : D) (pages wanted : Pa
   }
 
 -- a load that is broken off is so by the disk
-pub by_disk : (T : Type 0) (f : LoadFault) → loads {T = T} (Err f) ≡ true → of_load f ≡ Some TheDisk
-by_disk T load.Disk e = refl
-by_disk T (load.SmallDisk need have) e = absurd (let h = e in cc)
-by_disk T load.Memory e = absurd (let h = e in cc)
-by_disk T (load.NoSuchUser user users) e = absurd (let h = e in cc)
+pub by_disk : (f : LoadFault) → begins f ≡ true → of_load f ≡ Some TheDisk
+by_disk load.Disk e = refl
+by_disk (load.SmallDisk need have) e = absurd (let h = e in cc)
+by_disk load.Memory e = absurd (let h = e in cc)
+by_disk (load.NoSuchUser user users) e = absurd (let h = e in cc)
 
-pub same_loads : (T R : Type 0) (f : LoadFault) → loads {T = T} (Err f) ≡ loads {T = R} (Err f)
-same_loads T R load.Disk = refl
-same_loads T R (load.SmallDisk need have) = refl
-same_loads T R load.Memory = refl
-same_loads T R (load.NoSuchUser user users) = refl
+-- a call that loads a run and makes it says of one that isn't loaded what the load does
+pub unloaded : {O D T R : Type 0} (told : sectors_of.Ghosts D) (b : Booted) (view : View) (loading : Load) (o : O) (d d1 : D) (f : LoadFault) → LoadFails b view loading.need (told.size d) (told.faults d) (told.faults d1) f → LoadCalls {T = T} told d d1 loading.script (Err f) →
+    LoadsRun {T = R} told b view loading (o, d) (o, d1) (Err f)
+unloaded told b view loading o d d1 f w calls = record { refused = w; loaded = tt; calls = record { made = calls.made; none = calls.none }; unprinted = refl }
 
 -- WHERE NO RUN IS LOADED
 pub whole_refused : {O D T : Type 0} (text : sink_of.Ghosts O) (told : sectors_of.Ghosts D) (y : System) (rows : Rows) (start : List (List ℕ) → State) (view : View) (turns steps : ℕ) (script : List Call) (o : O) (d d1 : D) (f : LoadFault) →
@@ -61,7 +61,7 @@ pub whole_refused : {O D T : Type 0} (text : sink_of.Ghosts O) (told : sectors_o
 whole_refused {O} {D} {T} text told y rows start view turns steps script o d d1 f calls = record {
   exact = λ begun sectors p is past. (
     λ shelf. (let w = made begun shelf in
-        subst (Performs (run_script (run_at (outside_of rows (told.size d)) y (start sectors) view turns steps) script p) (at text told shelf o d) (at text told shelf o d1)) (sym (by_disk RunEnd f begun))
+        subst (Performs (run_script (run_at (outside_of rows (told.size d)) y (start sectors) view turns steps) script p) (at text told shelf o d) (at text told shelf o d1)) (sym (by_disk f begun))
         (first (script ++ opening_script view y) (rest_script (run_at (outside_of rows (told.size d)) y (start sectors) view turns steps) p 0) (at text told shelf o d) (at text told shelf o d1) TheDisk
         (first script (opening_script view y) (at text told shelf o d) (at text told shelf o d1) TheDisk w))),
     λ _. tt,
@@ -70,31 +70,25 @@ whole_refused {O} {D} {T} text told y rows start view turns steps script o d d1 
     [],
     tt,
     λ shelf. same_script script (script ++ []) (at text told shelf o d) (at text told shelf o d1) (of_load f) (sym (append-nil script))
-        (subst (Performs script (at text told shelf o d) (at text told shelf o d1)) (sym (by_disk RunEnd f begun)) (made begun shelf)),
+        (subst (Performs script (at text told shelf o d) (at text told shelf o d1)) (sym (by_disk f begun)) (made begun shelf)),
   );
-  none = λ e. ap (λ (q : D). (o, q)) (calls.none (same_loads T RunEnd f ∙ e));
+  none = λ e. ap (λ (q : D). (o, q)) (calls.none e);
 }
   where
-    made : loads {T = RunEnd} (Err f) ≡ true → (shelf : Files) → Performs script (at text told shelf o d) (at text told shelf o d1) (Some TheDisk)
-    made begun shelf = subst (Performs script (at text told shelf o d) (at text told shelf o d1)) (by_disk RunEnd f begun) (calls.made (same_loads T RunEnd f ∙ begun) shelf (output text o))
+    made : begins f ≡ true → (shelf : Files) → Performs script (at text told shelf o d) (at text told shelf o d1) (Some TheDisk)
+    made begun shelf = subst (Performs script (at text told shelf o d) (at text told shelf o d1)) (by_disk f begun) (calls.made begun shelf (output text o))
 
 -- WHERE ONE IS, and makes its turns
-abbrev RestAt : {L O D : Type 0} → sink_of.Ghosts O → sectors_of.Ghosts D → Kept L → Booted → Rows → View → (size turns budget : ℕ) → O → D → O → D → RunEnd → Type 0
-RestAt text told r b rows v size turns budget o d o1 d1 e =
-    (y : System) (s : State) (late held : ℕ) (old : List (List ℕ)) (k t wanted steps : ℕ) (c : Cvm) → Bootable b rows size y s late held old → FirstAt (outside_of rows size) s k t → 1 ≤ wanted → k + turns ≡ wanted → budget + t ≡ steps →
-    ReadyAt (outside_of rows size) y s v k t c (run_around r (told.sectors d) budget) → c.status ≡ Running → (p : Past) → IsPast (run_at (outside_of rows size) y s v wanted steps) p →
-    RunEndsBy text told (o, d) (o1, d1) (begin_script (run_at (outside_of rows size) y s v wanted steps) k ++ rest_script (run_at (outside_of rows size) y s v wanted steps) p t) (due_end (run_at (outside_of rows size) y s v wanted steps) p) e
-
 module _ {L O D : Type 0} (text : sink_of.Ghosts O) (told : sectors_of.Ghosts D) (layer : L) (b : Booted) (rows : Rows) (start : List (List ℕ) → State) (held need : ℕ) (view : View) (turns steps : ℕ) (script : List Call) (o o1 : O) (d d1 d2 : D) (r : Kept L) (e : RunEnd)
     (fresh : IsFresh layer b view rows need (told.size d) r) (size : told.size d1 ≡ told.size d) (some : 1 ≤ turns)
     (premises : (old : List (List ℕ)) → told.sectors d ≡ Some old → (late : ℕ) × Bootable b rows (told.size d) (system_of b rows) (start old) late held old)
     (ready : StandsReady (system_of b rows) start (told.sectors d) (told.sectors d1) r) (loaded : LoadCalls {T = Kept L} told d d1 script (Ok r)) (calls : RestCalls text told r turns steps (o, d1) (o1, d2) e) where
-  rest_at : RestAt text told r b rows view (told.size d) turns steps o d1 o1 d2 e
+  rest_at : RunPerformsAt text told all_calls end_by r b rows view (told.size d) turns steps (o, d1) (o1, d2) e
   rest_at =
-      subst (λ (n : ℕ). RestAt text told r b rows view n turns steps o d1 o1 d2 e) size
-      (subst (λ (w : View). RestAt text told r b rows w (told.size d1) turns steps o d1 o1 d2 e) fresh.view_is
-      (subst (λ (q : Rows). RestAt text told r b q r.view (told.size d1) turns steps o d1 o1 d2 e) fresh.rows_are
-      (subst (λ (c : Booted). RestAt text told r c r.machine.rows r.view (told.size d1) turns steps o d1 o1 d2 e) fresh.boot_is calls.exact)))
+      subst (λ (n : ℕ). RunPerformsAt text told all_calls end_by r b rows view n turns steps (o, d1) (o1, d2) e) size
+      (subst (λ (w : View). RunPerformsAt text told all_calls end_by r b rows w (told.size d1) turns steps (o, d1) (o1, d2) e) fresh.view_is
+      (subst (λ (q : Rows). RunPerformsAt text told all_calls end_by r b q r.view (told.size d1) turns steps (o, d1) (o1, d2) e) fresh.rows_are
+      (subst (λ (c : Booted). RunPerformsAt text told all_calls end_by r c r.machine.rows r.view (told.size d1) turns steps (o, d1) (o1, d2) e) fresh.boot_is calls.exact)))
 
   pub whole_made : WholeScript text told (system_of b rows) rows start view turns steps script (o, d) (o1, d2) (Ok e)
   whole_made = record {

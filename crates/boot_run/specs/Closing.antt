@@ -10,8 +10,9 @@ use Rattle.cvm_model.specs.Text.{end_text, fault_name, globals_text, log_text, m
 use Rattle.boot_turns.specs.declared.answers.View.{View}
 use Rattle.boot_turns.specs.declared.answers.View.TheVariants.{Boot, Trace}
 use Rattle.cvm_outside.specs.Script.{Call, Printed, scripts}
+use Rattle.boot_report.specs.Resident.{page_reads}
 use Rattle.boot_turns.specs.Runs.{Run, Past, state_at, steps_made, cvm_at}
-use Rattle.boot_turns.specs.StepScript.{reads_of_page, page_of}
+use Rattle.boot_turns.specs.StepScript.{page_of}
 use Rattle.boot_turns.specs.TurnEnds.{first_user_machine}
 
 -- a text is printed, by a call in any case
@@ -25,7 +26,7 @@ opening_script (Trace u) y = says (start_row u (first_user_machine y u))
 
 -- page p of user u is read where it is in no frame, and its rows are printed
 abbrev pub page_report_script : Map → State → (u : ℕ) → Flat → (p : ℕ) → List Call
-page_report_script m s u f p = reads_of_page m s (page_of m u p) ++ says (memory_text (1024 * p) (take 1024 (drop (1024 * p) f.words)))
+page_report_script m s u f p = page_reads m s (page_of m u p) ++ says (memory_text (1024 * p) (take 1024 (drop (1024 * p) f.words)))
 
 -- the rows of a user's processor
 abbrev pub cpu_text : (u : ℕ) → Flat → List ℕ

@@ -1,9 +1,7 @@
--- What contracts see of a loaded run, and how a call of `load` ends.
-use Rattle.std.specs.Prelude.{◌≡◌, ◌≢◌, ℕ, ◌+◌, ◌*◌, ◌/◌, ◌<◌, ◌≤◌, ◌&&◌, Bool, true, nat_lt, Option, Some, None, List, length}
-use Rattle.std.specs.Prelude.{Result, Err, IfOk, IfErr, OnErr}
+-- What contracts see of a loaded run, and why none is loaded.
+use Rattle.std.specs.Prelude.{◌≡◌, ℕ, ◌+◌, ◌*◌, ◌/◌, ◌<◌, ◌≤◌, ◌&&◌, Bool, true, nat_lt, Option, Some, None, List, length}
 use Rattle.std.specs.Option.{option_map}
 use Rattle.cvm_outside.specs.Causes.{Rose}
-use Rattle.cvm_outside.specs.Numbering.{Tally, tally}
 use Rattle.mips_table.specs.Device.{Pending, Idle, Reading, Writing}
 use Rattle.mips_table.specs.Machine.{State}
 use Rattle.schedule_file.specs.Rows.{Rows}
@@ -92,22 +90,3 @@ abbrev pub names_sector : ℕ → Pending → Bool
 names_sector count Idle = true
 names_sector count (Reading left sector) = nat_lt sector count
 names_sector count (Writing left sector) = nat_lt sector count
-
--- WHAT EVERY CALL THAT LOADS A RUN LEAVES OF THE DISK, by its size, its sectors and its counts of faults and calls, and by the disk before and after: why
--- no run is loaded, where none is, and then nothing changes, unless the disk failed in the load; where it did, `Stopped` tells what that leaves; and the
--- size of the disk stays
-module _ {D : Type 0} (size : D → ℕ) (sectors : D → Option (List (List ℕ))) (broke called : D → ℕ) where
-  pub record LoadLeaves {A : Type 0} (b : Booted) (view : View) (need : ℕ) (Stopped : (told retold : Option (List (List ℕ))) → (made remade : Tally) → Type 0)
-      (disk redisk : D) (result : Result A LoadFault) : Type 0 where
-    pub refused : IfErr result (LoadFails b view need (size disk) (broke disk) (broke redisk))
-    pub stopped : result ≡ Err Disk → Stopped (sectors disk) (sectors redisk) (tally broke called disk) (tally broke called redisk)
-    pub still : result ≢ Err Disk → OnErr result (redisk ≡ disk)
-    pub same_size : size redisk ≡ size disk
-
--- WHAT EVERY CALL SAYS THAT LOADS A RUN AND MAKES IT, beside its script: what it leaves of the disk; where no run is loaded nothing is printed
-module _ {D O : Type 0} (size : D → ℕ) (sectors : D → Option (List (List ℕ))) (broke called : D → ℕ) where
-  pub record LoadsRun {A : Type 0} (b : Booted) (view : View) (need : ℕ) (Stopped : (told retold : Option (List (List ℕ))) → (made remade : Tally) → Type 0)
-      (disk : D) (out : O) (redisk : D) (reout : O) (result : Result A LoadFault) : Type 0 where
-    pub leaves : LoadLeaves size sectors broke called b view need Stopped disk redisk result
-    pub loaded : IfOk result (λ _. HasDiskRoom b view need (size disk))
-    pub unprinted : IfErr result (λ _. reout ≡ out)

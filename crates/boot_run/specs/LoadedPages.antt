@@ -1,6 +1,5 @@
--- The pages that a load writes to the disk, and how often it calls it.
-use Rattle.std.specs.Prelude.{ℕ, zero, suc, ◌+◌, ◌-◌, ◌*◌, nat_lt, if◌then◌else◌, Bool, List, [], map, length, slice_index}
-use Rattle.cvm_outside.specs.Numbering.{Tally, until_fault}
+-- The pages that a load writes to the disk.
+use Rattle.std.specs.Prelude.{ℕ, ◌+◌, ◌-◌, ◌*◌, nat_lt, if◌then◌else◌, List, [], map, length, slice_index}
 use Rattle.page_model.specs.Paging.{Pages}
 use Rattle.cvm_model.specs.Cvm.{System, first_flat}
 use Rattle.cvm_model.specs.Paged.{pages_by}
@@ -23,12 +22,3 @@ user_pages y = disk_pages y.boot.params.pages y.boot.users []
 
 abbrev pub rom_pages : System → Pages
 rom_pages y = disk_pages y.boot.params.pages y.boot.users y.boot.words
-
--- a disk's count of calls once a number's page is written, if it is one: one more, of a disk with so many faults
-abbrev pub with_call : (live : ℕ → Bool) → (faults made q : ℕ) → ℕ
-with_call live faults made q = if live q then until_fault faults made else made
-
--- and once the pages of the first n numbers are written: one more for each number that is a page
-abbrev pub calls_made : (live : ℕ → Bool) → ℕ → Tally → ℕ
-calls_made live zero made = made.calls
-calls_made live (suc n) made = with_call live made.faults (calls_made live n made) n

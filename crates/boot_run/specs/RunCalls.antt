@@ -1,5 +1,5 @@
 -- THE SCRIPTS OF THE CALLS of a loaded run: turns, the report, and a run to its end; over a disk that tells its sectors exactly, and else some calls.
-use Rattle.std.specs.Prelude.{◌≡◌, ℕ, zero, suc, ◌+◌, ◌-◌, ◌≤◌, ⊤, Bool, true, false, Option, Some, None, List, [], ◌++◌, Result, Ok, Err}
+use Rattle.std.specs.Prelude.{◌≡◌, ℕ, zero, suc, ◌+◌, ◌-◌, ◌≤◌, ⊤, if◌then◌else◌, Bool, true, false, Option, Some, None, List, [], ◌++◌, Result, Ok, Err, IfOk, IfErr, OnErr}
 use Rattle.mips_table.specs.Device.{Environment}
 use Rattle.mips_table.specs.Machine.{State}
 use Rattle.schedule_file.specs.Rows.{Rows}
@@ -12,6 +12,7 @@ use Rattle.cvm_outside.specs.declared.sink.Sink as sink_of
 use Rattle.cvm_outside.specs.declared.sectors.Sectors as sectors_of
 use Rattle.cvm_outside.specs.Script.{Call, Who, TheSink, TheShelf, TheDisk, Performs, Makes, blame}
 use Rattle.cvm_model.specs.Cvm.{System, Status, Running, Faulted, Cvm, IsCvm}
+use Rattle.layer_contract.specs.declared.boot.Boot.{Boot as Booted}
 use Rattle.layer_contract.specs.Boots.{boot_of}
 use Rattle.boot_turns.specs.Premises.{StartsFrom}
 use Rattle.boot_turns.specs.declared.answers.View.{View}
@@ -24,10 +25,11 @@ use Rattle.boot_run.specs.declared.load.LoadFault.{LoadFault}
 use Rattle.boot_run.specs.declared.load.LoadFault.TheVariants as load
 use Rattle.boot_run.specs.declared.whole.RunEnd.{RunEnd}
 use Rattle.boot_run.specs.declared.whole.RunEnd.TheVariants as ends
-use Rattle.boot_run.specs.Closing.{opening_script, report_by}
-use Rattle.boot_run.specs.RunScript.{rest_script, run_script, AreReads}
+use Rattle.boot_run.specs.Closing.{opening_script, closing_script, report_by}
+use Rattle.boot_run.specs.RunScript.{run_script, AreReads}
 use Rattle.boot_run.specs.Shown.{has_faulted}
-use Rattle.boot_run.specs.LoadEnds.{Kept}
+use Rattle.boot_run.specs.LoadEnds.{Kept, HasDiskRoom, LoadFails}
+use Rattle.boot_run.specs.Loaded.{Load}
 use Rattle.boot_run.specs.Pieces.{Bootable, FirstAt}
 use Rattle.boot_run.specs.TurnCalls.{run_around, ReadyAt}
 
@@ -111,16 +113,28 @@ of_load load.Disk = Some TheDisk
 of_load other = None
 
 -- a load is begun, or refused before it
+abbrev pub begins : LoadFault → Bool
+begins load.Disk = true
+begins other = false
+
 abbrev pub loads : {T : Type 0} → Result T LoadFault → Bool
 loads (Ok r) = true
-loads (Err load.Disk) = true
-loads (Err other) = false
+loads (Err fault) = begins fault
 
 -- THE CALLS OF A LOAD, over a disk: those of its script; where it is refused before, none
 pub record LoadCalls {D T : Type 0} (told : sectors_of.Ghosts D) (disk redisk : D) (script : List Call) (result : Result T LoadFault) : Type 0 where
   pub made : loads result ≡ true → (shelf : Files) (sink : Output) → Performs script (record { shelf = shelf; sink = sink; disk = drive told disk })
       (record { shelf = shelf; sink = sink; disk = drive told redisk }) (blame of_load result)
   pub none : loads result ≡ false → redisk ≡ disk
+
+-- WHAT EVERY CALL SAYS THAT LOADS A RUN AND MAKES IT, beside its script, over a sink and a disk: why no run is loaded, where none is, and that the disk has
+-- room, where one is; where none is the calls are the load's alone, and nothing is printed
+pub record LoadsRun {O D T : Type 0} (told : sectors_of.Ghosts D) (b : Booted) (view : View) (loading : Load) (old new : O × D)
+    (result : Result T LoadFault) : Type 0 where
+  pub refused : IfErr result (LoadFails b view loading.need (told.size old.1) (told.faults old.1) (told.faults new.1))
+  pub loaded : IfOk result (λ _. HasDiskRoom b view loading.need (told.size old.1))
+  pub calls : OnErr result (LoadCalls told old.1 new.1 loading.script result)
+  pub unprinted : OnErr result (new.0 ≡ old.0)
 
 -- whom an end blames, and how a run ends where no call fails: by whether it came to its end, and by what the abstract machine says
 abbrev pub of_end : RunEnd → Option Who
@@ -134,8 +148,11 @@ end_by false status = ends.OutOfSteps
 end_by true (Faulted f) = ends.KernelFaulted
 end_by true other = ends.Done
 
+abbrev pub due_by : (Bool → Status → RunEnd) → Run → Past → RunEnd
+due_by due r p = due (has_ended r) (cvm_at r p (steps_made r)).status
+
 abbrev pub due_end : Run → Past → RunEnd
-due_end r p = end_by (has_ended r) (cvm_at r p (steps_made r)).status
+due_end r p = due_by end_by r p
 
 -- calls of a sink and a disk, by whom they blame
 abbrev pub CallsAreMade : {O D : Type 0} → sink_of.Ghosts O → sectors_of.Ghosts D → (old new : O × D) → List Call → Option Who → Type 0
@@ -168,33 +185,53 @@ pub record GoCalls {O D L T : Type 0} (text : sink_of.Ghosts O) (told : sectors_
   pub exact : GoPerforms text told run turns budget old new result
   pub some : SomeMake text told old new result
 
--- THE CALLS OF A LOADED RUN TO ITS END: from any moment at which turns are complete for the first time, of any boot of this kernel that stands there and
--- goes on
-abbrev pub RestPerforms : {O D L : Type 0} → sink_of.Ghosts O → sectors_of.Ghosts D → Kept L → (turns budget : ℕ) → (old new : O × D) → RunEnd → Type 0
-RestPerforms text told run turns budget (out, disk) new end =
-    (y : System) (s : State) (late held : ℕ) (old : List (List ℕ)) (k t wanted steps : ℕ) (c : Cvm) →
-    Bootable run.boot run.machine.rows (told.size disk) y s late held old → FirstAt (outside_of run.machine.rows (told.size disk)) s k t → 1 ≤ wanted →
-    k + turns ≡ wanted → budget + t ≡ steps →
-    ReadyAt (outside_of run.machine.rows (told.size disk)) y s run.view k t c (run_around run (told.sectors disk) budget) →
-    c.status ≡ Running → (p : Past) → IsPast (run_at (outside_of run.machine.rows (told.size disk)) y s run.view wanted steps) p →
-    RunEndsBy text told (out, disk) new (begin_script (run_at (outside_of run.machine.rows (told.size disk)) y s run.view wanted steps) k
-    ++ rest_script (run_at (outside_of run.machine.rows (told.size disk)) y s run.view wanted steps) p t)
-    (due_end (run_at (outside_of run.machine.rows (told.size disk)) y s run.view wanted steps) p) end
+-- the calls that close a run are all made
+abbrev pub all_calls : Status → List Call → List Call
+all_calls status closing = closing
 
--- THE CALLS THAT CLOSE A RUN: those of its report, by whom the end blames
-abbrev pub ClosePerforms : {O D L : Type 0} → sink_of.Ghosts O → sectors_of.Ghosts D → Kept L → (old new : O × D) → RunEnd → Type 0
-ClosePerforms text told run (out, disk) new end =
-    (budget : ℕ) (y : System) (s : State) (late held : ℕ) (k t : ℕ) (c : Cvm) → y.boot ≡ boot_of run.boot →
-    StartsFrom (IsTypedState (unit_view run.boot.unit)) (outside_of run.machine.rows (told.size disk)) y s late held →
-    ReadyAt (outside_of run.machine.rows (told.size disk)) y s run.view (suc k) t c (run_around run (told.sectors disk) budget) →
-    (turns steps : ℕ) (p : Past) → TellsFrom (run_at (outside_of run.machine.rows (told.size disk)) y s run.view turns steps) p t t →
-    RunEndsBy text told (out, disk) new (report_script run.view (run_at (outside_of run.machine.rows (told.size disk)) y s run.view turns steps) p t c.status)
-    (end_by true c.status) end
+-- from step number t on: the steps that are left, and those of the calls which close the run that are made
+abbrev pub end_script : (part : Status → List Call → List Call) → Run → Past → (t : ℕ) → List Call
+end_script part r p t =
+    steps_script r p t (steps_made r - t) ++ (if has_ended r then part (cvm_at r p (steps_made r)).status (closing_script r p) else [])
+
+-- THE CALLS OF A LOADED RUN TO ITS END: from any moment at which turns are complete for the first time, of any boot of this kernel that stands there and
+-- goes on, by which of the calls that close it are made, and how it is due to end
+abbrev pub RunPerformsAt : {O D L : Type 0} → sink_of.Ghosts O → sectors_of.Ghosts D → (part : Status → List Call → List Call) →
+    (due : Bool → Status → RunEnd) → Kept L → Booted → Rows → View → (size turns budget : ℕ) → (old new : O × D) → RunEnd → Type 0
+RunPerformsAt text told part due run b rows v size turns budget (out, disk) new end =
+    (y : System) (s : State) (late held : ℕ) (old : List (List ℕ)) (k t wanted steps : ℕ) (c : Cvm) → Bootable b rows size y s late held old →
+    FirstAt (outside_of rows size) s k t → 1 ≤ wanted → k + turns ≡ wanted → budget + t ≡ steps →
+    ReadyAt (outside_of rows size) y s v k t c (run_around run (told.sectors disk) budget) →
+    c.status ≡ Running → (p : Past) → IsPast (run_at (outside_of rows size) y s v wanted steps) p →
+    RunEndsBy text told (out, disk) new (begin_script (run_at (outside_of rows size) y s v wanted steps) k
+    ++ end_script part (run_at (outside_of rows size) y s v wanted steps) p t) (due_by due (run_at (outside_of rows size) y s v wanted steps) p) end
+
+-- of what is booted, under its schedule and its view
+abbrev pub RunPerforms : {O D L : Type 0} → sink_of.Ghosts O → sectors_of.Ghosts D → (part : Status → List Call → List Call) →
+    (due : Bool → Status → RunEnd) → Kept L → (turns budget : ℕ) → (old new : O × D) → RunEnd → Type 0
+RunPerforms text told part due run turns budget old new end =
+    RunPerformsAt text told part due run run.boot run.machine.rows run.view (told.size old.1) turns budget old new end
+
+-- THE CALLS THAT CLOSE A RUN, between turns of any boot of this kernel that stands there: those of its report that are made, by whom the end blames
+abbrev pub EndPerformsAt : {O D L : Type 0} → sink_of.Ghosts O → sectors_of.Ghosts D → (part : Status → List Call → List Call) →
+    (due : Bool → Status → RunEnd) → Kept L → Booted → Rows → View → (size : ℕ) → (old new : O × D) → RunEnd → Type 0
+EndPerformsAt text told part due run b rows v size (out, disk) new end =
+    (budget : ℕ) (y : System) (s : State) (late held : ℕ) (k t : ℕ) (c : Cvm) → y.boot ≡ boot_of b →
+    StartsFrom (IsTypedState (unit_view b.unit)) (outside_of rows size) y s late held →
+    ReadyAt (outside_of rows size) y s v (suc k) t c (run_around run (told.sectors disk) budget) →
+    (turns steps : ℕ) (p : Past) → TellsFrom (run_at (outside_of rows size) y s v turns steps) p t t →
+    RunEndsBy text told (out, disk) new (part c.status (report_script v (run_at (outside_of rows size) y s v turns steps) p t c.status))
+    (due true c.status) end
+
+abbrev pub EndPerforms : {O D L : Type 0} → sink_of.Ghosts O → sectors_of.Ghosts D → (part : Status → List Call → List Call) →
+    (due : Bool → Status → RunEnd) → Kept L → (old new : O × D) → RunEnd → Type 0
+EndPerforms text told part due run old new end =
+    EndPerformsAt text told part due run run.boot run.machine.rows run.view (told.size old.1) old new end
 
 -- so it is; and over any disk calls that only read, and print: none where the kernel faulted
 pub record CloseCalls {O D L : Type 0} (text : sink_of.Ghosts O) (told : sectors_of.Ghosts D) (run : Kept L) (old new : O × D) (end : RunEnd) :
     Type 0 where
-  pub exact : ClosePerforms text told run old new end
+  pub exact : EndPerforms text told all_calls end_by run old new end
   pub some : (script : List Call) × AreReads script × CallsAreMade text told old new script (of_end end)
   pub none : has_faulted run.ended ≡ true → new ≡ old
 
@@ -203,10 +240,14 @@ abbrev pub SomeMade : {O D : Type 0} → sink_of.Ghosts O → sectors_of.Ghosts 
 SomeMade text told old new blamed = (script : List Call) × AreOfRun script × CallsAreMade text told old new script blamed
 
 -- so it is; and some are made over any disk
-pub record RestCalls {O D L : Type 0} (text : sink_of.Ghosts O) (told : sectors_of.Ghosts D) (run : Kept L) (turns budget : ℕ) (old new : O × D)
-    (end : RunEnd) : Type 0 where
-  pub exact : RestPerforms text told run turns budget old new end
+pub record LoadedCalls {O D L : Type 0} (text : sink_of.Ghosts O) (told : sectors_of.Ghosts D) (part : Status → List Call → List Call)
+    (due : Bool → Status → RunEnd) (run : Kept L) (turns budget : ℕ) (old new : O × D) (end : RunEnd) : Type 0 where
+  pub exact : RunPerforms text told part due run turns budget old new end
   pub some : SomeMade text told old new (of_end end)
+
+-- of a run that is closed where it ends
+abbrev pub RestCalls : {O D L : Type 0} → sink_of.Ghosts O → sectors_of.Ghosts D → Kept L → (turns budget : ℕ) → (old new : O × D) → RunEnd → Type 0
+RestCalls text told run turns budget old new end = LoadedCalls text told all_calls end_by run turns budget old new end
 
 -- whom an answer blames of a call that loads a run and makes it
 abbrev pub of_answer : Result RunEnd LoadFault → Option Who

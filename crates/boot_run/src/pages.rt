@@ -3,7 +3,7 @@ ghost use Rattle.std.specs.Prelude.{◌≡◌, ℕ, ◌+◌, ◌<◌, ◌≤◌,
 ghost use Rattle.boot_run.specs.Loading.{pages_of_users, holding_words};
 ghost use Rattle.cvm_outside.specs.Script.{Asks};
 ghost use Rattle.boot_run.specs.LoadScript.{page_write_script, load_script};
-ghost use Rattle.boot_run.specs.Writes.{HavePages, IsSource, WritesPage, WritesPages};
+ghost use Rattle.boot_run.specs.Writes.{HavePages, IsSource};
 
 use cvm_outside::{DiskFault, Sectors};
 use mips_machine::Machine;
@@ -58,7 +58,7 @@ fn write_page<D: Sectors>(
 ) -> Result<(), DiskFault>
     requires pages { HavePages per (length users.now) }
     requires inside { q < D.size disk.old }
-    ensures writes { WritesPage D.size D.sectors D.faults D.calls (pages_of_users per users.now behind.now) q disk.old disk.new result }
+    ensures size { D.size disk.new ≡ D.size disk.old }
     ensures script { Asks D.Sectors disk.old disk.new (page_write_script (pages_of_users per users.now behind.now) q) result }
 {
     let (words, first) = page_source(users, per, behind, q);
@@ -72,8 +72,7 @@ fn write_page<D: Sectors>(
 //
 // # Errors
 //
-// A fault of the disk. The sector at which it failed may then hold anything; those before it are written, and those behind it are as before. As many
-// calls of the disk were made as sectors up to that one get a page.
+// A fault of the disk, at which the script breaks off.
 pub(crate) fn write_pages<D: Sectors>(
     users: &[Vec<u32>],
     per: u32,
@@ -83,7 +82,7 @@ pub(crate) fn write_pages<D: Sectors>(
 ) -> Result<(), DiskFault>
     requires pages { HavePages per (length users.now) }
     requires room { most ≤ D.size disk.old }
-    ensures writes { WritesPages D.size D.sectors D.faults D.calls (pages_of_users per users.now behind.now) most disk.old disk.new result }
+    ensures size { D.size disk.new ≡ D.size disk.old }
     ensures script { Asks D.Sectors disk.old disk.new (load_script (pages_of_users per users.now behind.now) most) result }
 {
     for q in 0..most {

@@ -10,11 +10,14 @@ ghost use Rattle.boot_run.specs.RunEnds.{EndsUnsaved};
 
 use crate::run::Run;
 use crate::whole::{Limits, RunEnd, run_to_end};
+use boot_turns::machines_run;
 use cvm_outside::{Sectors, Sink};
 use layer_contract::Layer;
 use layer_map::{Map, memory_is_whole, parts_are_in_order};
 use mips_machine::Machine;
-use mips_table::runs::{a_new_machine_is_steady, machines_stay_steady, runs_are_taken_up};
+use mips_table::runs::{
+    a_new_machine_is_steady, machines_stay_steady, runs_are_taken_up, turns_are_counted,
+};
 use schedule_file::Schedule;
 use std::alloc::{AllocError, Global};
 
@@ -63,6 +66,8 @@ pub fn saved_boots_are_of_runs()
     a_new_machine_is_steady();
     machines_stay_steady();
     runs_are_taken_up();
+    turns_are_counted();
+    machines_run();
     parts_are_in_order();
     memory_is_whole();
 }

@@ -1,18 +1,14 @@
 // A loaded run.
 ghost use Rattle.std.specs.Prelude.{◌≡◌, ◌≢◌, ◌∷◌, ◌+◌, ◌-◌, ◌<◌, ◌≤◌, ◌^◌};
-ghost use Rattle.std.specs.Prelude.{false, true, [], length, slice_index, IfOk, IsSome, OnErr, Err, Ok, Some, None};
+ghost use Rattle.std.specs.Prelude.{false, true, [], length, slice_index, IfOk, IfErr, IsSome, OnErr, Err, Ok, Some, None};
 ghost use Rattle.cvm_outside.specs.Script.{Prints};
 ghost use Rattle.layer_map.specs.Map.{memory_words};
 ghost use Rattle.mips_machine.specs.Saved.{AreSaved};
 ghost use Rattle.cvm_model.specs.Cvm.{map_of};
 ghost use Rattle.layer_contract.specs.Boots.{boot_of, BootFollows};
 ghost use Rattle.boot_turns.specs.LoopScripts.{StepsCall};
-ghost use Rattle.boot_turns.specs.Rom.{own_rom};
-ghost use Rattle.boot_run.specs.LoadEnds.{HasDiskRoom, LoadLeaves, pages_needed, rom_needed};
-ghost use Rattle.boot_run.specs.Loaded.{IsLoaded, LoadTorn, boot_load, rom_load};
-ghost use Rattle.boot_run.specs.LoadedPages.{user_pages, rom_pages};
-ghost use Rattle.boot_run.specs.Loading.{system_of};
-ghost use Rattle.boot_run.specs.LoadScript.{load_script};
+ghost use Rattle.boot_run.specs.LoadEnds.{HasDiskRoom, LoadFails, pages_needed, rom_needed};
+ghost use Rattle.boot_run.specs.Loaded.{IsLoaded, boot_load, own_load, rom_load};
 ghost use Rattle.boot_run.specs.AnyScripts.{TurnsScript};
 ghost use Rattle.boot_run.specs.RunCalls.{LoadCalls, ReportCalls, TurnsCall};
 ghost use Rattle.boot_run.specs.Calls.{MakesTurns, Proceeds, ProceedsAnyhow};
@@ -99,9 +95,8 @@ impl<L: Layer + Drop> Run<L> {
     /// # Errors
     ///
     /// `NoSuchUser`, where the user of a trace is none of the users; else `SmallDisk`, where the disk has fewer sectors than the
-    /// users' pages take; else `Memory`, for want of memory; else `Disk`, only where the disk's count of faults rose. The sectors before the one at
-    /// which the disk failed are written then, that one may hold anything, and the others are as before; as many calls of the disk were made, where
-    /// it hadn't failed before, as sectors up to that one get a page.
+    /// users' pages take; else `Memory`, for want of memory; else `Disk`, only where the disk's count of faults rose. The script breaks off then: the
+    /// sectors before the one at which the disk failed are written, that one may hold anything, and the others are as before.
     pub fn load<D: Sectors>(
         alloc: Global,
         layer: L,
@@ -111,11 +106,10 @@ impl<L: Layer + Drop> Run<L> {
         disk: &mut D,
     ) -> Result<Run<L>, LoadFault>
         requires { BootFollows (L.image layer) (L.sizes layer) (L.map layer) boot }
-        ensures loaded { IfOk result
-            (IsLoaded D.size D.sectors D.faults D.calls layer boot view schedule (boot_load boot schedule) disk.old disk.new) }
-        ensures leaves { LoadLeaves D.size D.sectors D.faults D.calls boot view (pages_needed boot) (LoadTorn (boot_load boot schedule))
-            disk.old disk.new result }
-        ensures script { LoadCalls D.Sectors disk.old disk.new (load_script (user_pages (system_of boot schedule)) (pages_needed boot)) result }
+        ensures loaded { IfOk result (IsLoaded D.Sectors layer boot view schedule (boot_load boot schedule) disk.old disk.new) }
+        ensures refused { IfErr result (LoadFails boot view (pages_needed boot) (D.size disk.old) (D.faults disk.old) (D.faults disk.new)) }
+        ensures size { D.size disk.new ≡ D.size disk.old }
+        ensures script { LoadCalls D.Sectors disk.old disk.new (boot_load boot schedule).script result }
     {
         check_view(view, boot.users.len() as u32)?;
         let need = pages_needed(&boot);
@@ -158,11 +152,10 @@ impl<L: Layer + Drop> Run<L> {
     ) -> Result<Run<L>, LoadFault>
         requires follows { BootFollows (L.image layer) (L.sizes layer) (L.map layer) boot }
         requires few { length rom.now.items ≤ 1024 }
-        ensures loaded { IfOk result
-            (IsLoaded D.size D.sectors D.faults D.calls layer boot view schedule (rom_load boot schedule rom.now.items) disk.old disk.new) }
-        ensures leaves { LoadLeaves D.size D.sectors D.faults D.calls boot view (rom_needed boot) (LoadTorn (rom_load boot schedule rom.now.items))
-            disk.old disk.new result }
-        ensures script { LoadCalls D.Sectors disk.old disk.new (load_script (rom_pages (system_of boot schedule)) (rom_needed boot)) result }
+        ensures loaded { IfOk result (IsLoaded D.Sectors layer boot view schedule (rom_load boot schedule rom.now.items) disk.old disk.new) }
+        ensures refused { IfErr result (LoadFails boot view (rom_needed boot) (D.size disk.old) (D.faults disk.old) (D.faults disk.new)) }
+        ensures size { D.size disk.new ≡ D.size disk.old }
+        ensures script { LoadCalls D.Sectors disk.old disk.new (rom_load boot schedule rom.now.items).script result }
     {
         check_view(view, boot.users.len() as u32)?;
         check_room(disk.count(), rom_needed(&boot))?;
@@ -182,12 +175,12 @@ impl<L: Layer + Drop> Run<L> {
         disk: &mut D,
     ) -> Result<Run<L>, LoadFault>
         requires { BootFollows (L.image setup.layer) (L.sizes setup.layer) (L.map setup.layer) setup.boot }
-        ensures loaded { IfOk result (IsLoaded D.size D.sectors D.faults D.calls setup.layer setup.boot view setup.schedule
-            (rom_load setup.boot setup.schedule (own_rom (system_of setup.boot setup.schedule))) disk.old disk.new) }
-        ensures leaves { LoadLeaves D.size D.sectors D.faults D.calls setup.boot view (rom_needed setup.boot)
-            (LoadTorn (rom_load setup.boot setup.schedule (own_rom (system_of setup.boot setup.schedule)))) disk.old disk.new result }
-        ensures script { LoadCalls D.Sectors disk.old disk.new
-            (load_script (rom_pages (system_of setup.boot setup.schedule)) (rom_needed setup.boot)) result }
+        ensures loaded { IfOk result
+            (IsLoaded D.Sectors setup.layer setup.boot view setup.schedule (own_load setup.boot setup.schedule) disk.old disk.new) }
+        ensures refused { IfErr result
+            (LoadFails setup.boot view (rom_needed setup.boot) (D.size disk.old) (D.faults disk.old) (D.faults disk.new)) }
+        ensures size { D.size disk.new ≡ D.size disk.old }
+        ensures script { LoadCalls D.Sectors disk.old disk.new (own_load setup.boot setup.schedule).script result }
     {
         check_view(view, setup.boot.users.len() as u32)?;
         check_room(disk.count(), rom_needed(&setup.boot))?;
@@ -205,12 +198,12 @@ impl<L: Layer + Drop> Run<L> {
         requires follows { BootFollows (L.image setup.layer) (L.sizes setup.layer) (L.map setup.layer) setup.boot }
         requires few { length rom.now ≤ 1024 }
         requires room { HasDiskRoom setup.boot view (rom_needed setup.boot) (D.size disk.old) }
-        ensures loaded { IfOk result (IsLoaded D.size D.sectors D.faults D.calls setup.layer setup.boot view setup.schedule
-            (rom_load setup.boot setup.schedule rom.now) disk.old disk.new) }
-        ensures leaves { LoadLeaves D.size D.sectors D.faults D.calls setup.boot view (rom_needed setup.boot)
-            (LoadTorn (rom_load setup.boot setup.schedule rom.now)) disk.old disk.new result }
-        ensures script { LoadCalls D.Sectors disk.old disk.new
-            (load_script (rom_pages (system_of setup.boot setup.schedule)) (rom_needed setup.boot)) result }
+        ensures loaded { IfOk result
+            (IsLoaded D.Sectors setup.layer setup.boot view setup.schedule (rom_load setup.boot setup.schedule rom.now) disk.old disk.new) }
+        ensures refused { IfErr result
+            (LoadFails setup.boot view (rom_needed setup.boot) (D.size disk.old) (D.faults disk.old) (D.faults disk.new)) }
+        ensures size { D.size disk.new ≡ D.size disk.old }
+        ensures script { LoadCalls D.Sectors disk.old disk.new (rom_load setup.boot setup.schedule rom.now).script result }
     {
         let boot = setup.boot;
         let count = disk.count();

@@ -2,8 +2,9 @@
 ghost use Rattle.std.specs.Prelude.{◌≡◌, ◌≢◌, ◌≤◌, IfOk};
 ghost use Rattle.layer_contract.specs.Boots.{BootFollows};
 ghost use Rattle.boot_run.specs.OneTurn.{CanClose, CanRun};
-ghost use Rattle.boot_run.specs.LoadEnds.{LoadsRun, pages_needed};
-ghost use Rattle.boot_run.specs.Whole.{WholeStopped};
+ghost use Rattle.boot_run.specs.LoadEnds.{pages_needed};
+ghost use Rattle.boot_run.specs.Loaded.{boot_load};
+ghost use Rattle.boot_run.specs.RunCalls.{LoadsRun};
 ghost use Rattle.layer_contract.specs.Follows.{loaded};
 ghost use Rattle.boot_run.specs.LoadedPages.{user_pages};
 ghost use Rattle.boot_run.specs.Loading.{system_of};
@@ -73,8 +74,7 @@ pub fn run_to_save<L: Layer + Drop, D: Sectors, O: Sink>(
     requires some { 1 ≤ limits.turns }
     ensures stops { StopsSaved D.size D.sectors setup.boot setup.schedule limits.turns limits.steps disk.old disk.new result }
     ensures unput { IfOk result (λ a. a.1 ≢ RunEnd.ShelfFault) }
-    ensures loads { LoadsRun D.size D.sectors D.faults D.calls setup.boot View.Boot (pages_needed setup.boot) (WholeStopped setup.boot setup.schedule)
-        disk.old out.old disk.new out.new result }
+    ensures loads { LoadsRun D.Sectors setup.boot View.Boot (boot_load setup.boot setup.schedule) (out.old, disk.old) (out.new, disk.new) result }
     ensures script { SaveScript O.Sink D.Sectors (system_of setup.boot setup.schedule) setup.schedule (loaded (system_of setup.boot setup.schedule))
         limits.turns limits.steps (load_script (user_pages (system_of setup.boot setup.schedule)) (pages_needed setup.boot))
         (out.old, disk.old) (out.new, disk.new) result }

@@ -1,16 +1,15 @@
 -- THE ROWS OF A STEP of a trace: what its code makes of them, by what the machine shows, is the script that the run has, by what is shown of its user.
-use Rattle.std.proofs.Common.{◌≡◌, ◌≢◌, ℕ, zero, suc, ◌+◌, ◌-◌, ◌*◌, ◌/◌, ◌%◌, ◌<◌, ◌≤◌, ◌&&◌, Bool, true, false, nat_lt, List, [], ◌∷◌, ◌++◌, length, take, drop, Option, Some, None, slice_index, refl, sym, ap, ap₂, ◌∙◌, arith, eqb-true, lt-ltb, le-ltb, length-append}
+use Rattle.std.proofs.Common.{◌≡◌, ◌≢◌, ℕ, zero, suc, ◌+◌, ◌-◌, ◌*◌, ◌/◌, ◌<◌, ◌≤◌, ◌&&◌, Bool, true, false, nat_lt, List, [], ◌∷◌, ◌++◌, length, take, drop, Option, Some, None, slice_index, refl, sym, ap, ap₂, ◌∙◌, arith, eqb-true, le-ltb, length-append}
 use Rattle.std.specs.Prelude.{◌==◌, if◌then◌else◌}
-use Rattle.std.proofs.Math.Nat.{suc-mul, mul-le-mul_right}
 use Rattle.std.proofs.Math.Seq.{drop-append-add, drop-append_seam, take-append-add}
 use Rattle.std.proofs.lemmas.Bool.{cond-false}
-use Rattle.cvm_outside.specs.Script.{Call, Printed, Read, scripts}
+use Rattle.cvm_outside.specs.Script.{Call, Printed, scripts}
 use Rattle.cvm_outside.proofs.RowsPut.{scripts-none, scripts-suc}
 use Rattle.mips_table.specs.Device.{Environment}
 use Rattle.mips_table.specs.Machine.{State, run}
 use Rattle.mips_table.specs.Turns.{begins_turn}
 use Rattle.mips_machine.specs.Machine.{Held, state_of}
-use Rattle.layer_map.specs.Map.{Map, current_at, memory_frames}
+use Rattle.layer_map.specs.Map.{Map, current_at}
 use Rattle.layer_contract.specs.declared.registers.TheConstants.{ANSWER}
 use Rattle.page_model.specs.Paging.{Paged}
 use Rattle.cvm_model.specs.Cvm.{System, map_of}
@@ -18,8 +17,7 @@ use Rattle.cvm_model.specs.Kernel.{JournalEntry, Trapped, Stepped, Put}
 use Rattle.cvm_model.specs.Paged.{paged_of}
 use Rattle.cvm_model.specs.Primitives.{put_entries}
 use Rattle.cvm_model.specs.Text.{steps_row, entry_row, journal_rows_after, open_journal_rows}
-use Rattle.boot_report.specs.Resident.{is_resident, word_reads}
-use Rattle.boot_report.specs.Texts.{EntriesFit}
+use Rattle.boot_report.specs.Resident.{page_reads, word_reads}
 use Rattle.boot_report.specs.Told.{user_word, WordsAreTold}
 use Rattle.boot_turns.specs.declared.answers.View.TheVariants.{Trace}
 use Rattle.boot_turns.specs.declared.completion.Begun.{Begun}
@@ -32,7 +30,7 @@ use Rattle.boot_turns.specs.JournalText.{pending_steps, RowsFollow}
 use Rattle.boot_turns.specs.Returns.{noted_call, returned}
 use Rattle.boot_turns.specs.Tracing.{ReturnTold, tracer_at}
 use Rattle.boot_turns.specs.Runs.{Past}
-use Rattle.boot_turns.specs.StepScript.{prints, page_of, reads_of_page, is_copy_to, entry_reads, row_behind, rows_script}
+use Rattle.boot_turns.specs.StepScript.{prints, page_of, is_copy_to, entry_reads, row_behind, rows_script}
 use Rattle.boot_turns.specs.RowScripts.{ArePages, copied_script, copy_script, words_copied, ended_script, returned_script, followed_script}
 use Rattle.boot_turns.specs.LoopScripts.{traced_run}
 use Rattle.boot_turns.proofs.CopiedRows.{copy_rows, rows_next, puts_length}
@@ -89,27 +87,12 @@ puts_drop (suc i) address (w ∷ ws) lt =
     let r = puts_drop i (address + 4) ws (omega (arith, lt)) in
     let e : address + 4 + 4 * i ≡ address + 4 * suc i = omega arith in (r.0, r.1, r.2 ∙ ap (λ a. Put a r.0 ∷ r.1) e)
 
-and_first : (v w : Bool) → (v ≡ true → w ≡ true) → v && w ≡ v
-and_first true w h = h refl
-and_first false w h = refl
-
 prints_row : (row : List ℕ) → row ≢ [] → prints row ≡ Printed (Some row) ∷ []
 prints_row [] some = absurd (some refl)
 prints_row (b ∷ row) some = refl
 
--- a page of all users' is in a frame where its entry says so
-resident_as : (m : Map) (s : State) (q : ℕ) → EntriesFit m s → q < m.users * m.params.pages → is_resident m s q ≡ ((paged_of m s).entry q / 2048 % 2 == 1)
-resident_as m s q fit lt = and_first ((paged_of m s).entry q / 2048 % 2 == 1) (nat_lt ((paged_of m s).entry q / 4096) (memory_frames m)) (λ v. lt-ltb _ _ (fit q lt (eqb-true _ 1 v)))
-
-pub in_pages : (m : Map) (u k : ℕ) → 1 ≤ u → u ≤ m.users → k < 1024 * m.params.pages → page_of m u (k / 1024) < m.users * m.params.pages
-in_pages m u k some most lt =
-    let le : suc (u - 1) ≤ m.users = omega (arith, some, most) in
-    let a = mul-le-mul_right m.params.pages le in
-    let b = suc-mul (u - 1) m.params.pages in
-    omega (arith, a, b, lt)
-
 module _ (m : Map) (s : State) (u n answer : ℕ) (e : Entered) (words : List ℕ) (one : answer ≡ 1) (user : slice_index e.arguments 2 ≡ u) (sixth : e.primitive ≡ 6)
-    (told : WordsAreTold m s u words) (placed : IsPlaced u e answer words) (some : 1 ≤ u) (most : u ≤ m.users) where
+    (told : WordsAreTold m s u words) (placed : IsPlaced u e answer words) where
   abbrev address : ℕ
   address = slice_index e.arguments 3
 
@@ -139,8 +122,6 @@ module _ (m : Map) (s : State) (u n answer : ℕ) (e : Entered) (words : List �
   -- its page is read where it is in no frame
   reads_are : (i : ℕ) → i < count → entry_reads m s u (drop i entries) ≡ word_reads m s u (address / 4 + i)
   reads_are i lt =
-      let there = placed one sixth user in
-      let room = told.room in
       let long = copied_length m s u n answer e words one user sixth told placed in
       let is = copy_is u e answer words one user sixth in
       let many : i < length (take count (drop (address / 4) words)) = let l = puts_length address (take count (drop (address / 4) words)) in let k = ap (λ (d : List JournalEntry). length d) is in omega (arith, l, k, long, lt) in
@@ -148,9 +129,7 @@ module _ (m : Map) (s : State) (u n answer : ℕ) (e : Entered) (words : List �
       let page : (address + 4 * i) / 4096 ≡ (address / 4 + i) / 1024 = omega arith in
       ap (λ (d : List JournalEntry). entry_reads m s u (drop i d)) is
       ∙ ap (entry_reads m s u) p.2
-      ∙ ap (λ k. reads_of_page m s (page_of m u k)) page
-      ∙ ap (λ b. if b then [] else Read (page_of m u ((address / 4 + i) / 1024)) ∷ [])
-      (sym (resident_as m s (page_of m u ((address / 4 + i) / 1024)) told.entries (in_pages m u (address / 4 + i) some most (omega (arith, there, room, lt)))))
+      ∙ ap (λ k. page_reads m s (page_of m u k)) page
 
   copy_added : (reads : List JournalEntry → List Call) → ((d : List JournalEntry) → reads d ≡ entry_reads m s u d) →
       scripts (λ i. reads (drop i entries) ++ prints (drop (length (journal_rows_after false n (take i entries))) (journal_rows_after false n (take (suc i) entries)))) (length entries)
@@ -192,7 +171,7 @@ both_true true b e = (refl, e)
 both_true false b e = absurd (let t : false ≡ true = e in cc)
 
 -- THE STEP: step number t, before which j was shown, with these words of the user after it
-module _ (f : RowsFollow) (x : Environment) (y : System) (s : State) (u t : ℕ) (j : List JournalEntry) (words : List ℕ) (some : 1 ≤ u) (most : u ≤ (map_of y.boot).users) where
+module _ (f : RowsFollow) (x : Environment) (y : System) (s : State) (u t : ℕ) (j : List JournalEntry) (words : List ℕ) where
   abbrev m : Map
   m = map_of y.boot
 
@@ -216,7 +195,7 @@ module _ (f : RowsFollow) (x : Environment) (y : System) (s : State) (u t : ℕ)
       by true is =
           let a = both_true (answer == 1) (e.primitive == 6 && slice_index e.arguments 2 == u) is in
           let b = both_true (e.primitive == 6) (slice_index e.arguments 2 == u) a.1 in
-          sym (copy_added m after u (pending_steps j) answer e words (eqb-true answer 1 a.0) (eqb-true _ u b.1) (eqb-true e.primitive 6 b.0) told placed some most (λ e. entry_reads m after u e) (λ d. refl))
+          sym (copy_added m after u (pending_steps j) answer e words (eqb-true answer 1 a.0) (eqb-true _ u b.1) (eqb-true e.primitive 6 b.0) told placed (λ e. entry_reads m after u e) (λ d. refl))
       by false is =
           let no : (answer == 1) && (e.primitive == 6 && slice_index e.arguments 2 == u) ≡ false = is in
           ap (λ d. prints (journal_rows_after false (pending_steps j) d)) (same_end (answer == 1) (e.primitive == 1 && slice_index e.arguments 0 == u) (e.primitive == 3 && slice_index e.arguments 0 == u) (e.primitive == 5 && slice_index e.arguments 0 == u) (e.primitive == 6 && slice_index e.arguments 2 == u) _ _ _ _ _ no)

@@ -197,7 +197,7 @@ module _ (grow : (c : CUnit) → TracesGrow (IsTypedState c)) (f : RowsFollow) (
         let before : p.shown b.t ≡ b.traced.journal = grows.one b.t (p.shown b.t) b.traced.journal (shown b.t (omega arith) (omega arith)) b.traced.shown in
         let after : p.shown (suc b.t) ≡ b.traced.journal ++ step_entries x b.s b.u b.t (more_at b).words = grows.one (suc b.t) (p.shown (suc b.t)) _ (shown (suc b.t) (omega arith) (omega arith)) (more_at b).shown in
         let pages = pages_for m mid midtold ss k current began (more_at b).words (returned (state_of mid ss) k.call) (told_at b).1 refl (returns_at b) in
-        let rows = rows_followed f x b.y b.s b.u b.t b.traced.journal (more_at b).words b.low b.high m (state_of mid ss) k current began b.map_is (told_at b).2 (keeps_at b) here (begun_at b) p turns steps before after (returns_run b) in
+        let rows = rows_followed f x b.y b.s b.u b.t b.traced.journal (more_at b).words m (state_of mid ss) k current began b.map_is (told_at b).2 (keeps_at b) here (begun_at b) p turns steps before after (returns_run b) in
         subst P
         (ap₂ (λ (a b : List Call). a ++ b) (ap (script_of_step x) w.2) (followed_here m mid ss pages.0 k current began ∙ pages.2 ∙ rows) ∙ sym (steps_one (traced_run x b.y b.s b.u turns steps) p b.t))
         (h w.0 pages.0 pages.1)

@@ -1,17 +1,16 @@
 -- THE SCRIPT OF A STEP of a run: the transfer that is due, and the rows of what the step completes.
-use Rattle.std.specs.Prelude.{ℕ, suc, ◌+◌, ◌-◌, ◌*◌, ◌/◌, ◌%◌, ◌==◌, ◌&&◌, if◌then◌else◌, Bool, false, List, [], ◌∷◌, ◌++◌, Option, Some, None, length, take, drop, slice_index}
-use Rattle.mips_table.specs.declared.special.TheConstants.{IS_VALID}
+use Rattle.std.specs.Prelude.{ℕ, suc, ◌+◌, ◌-◌, ◌*◌, ◌/◌, ◌==◌, ◌&&◌, if◌then◌else◌, Bool, false, List, [], ◌∷◌, ◌++◌, Option, Some, None, length, take, drop, slice_index}
 use Rattle.mips_table.specs.Device.{Environment}
 use Rattle.mips_table.specs.Machine.{State, run}
 use Rattle.mips_table.specs.Turns.{begins_turn}
 use Rattle.mips_machine.specs.Steps.{script_of_step}
 use Rattle.layer_map.specs.Map.{Map}
 use Rattle.layer_contract.specs.declared.registers.TheConstants.{ANSWER}
-use Rattle.cvm_outside.specs.Script.{Call, Printed, Read, scripts}
+use Rattle.cvm_outside.specs.Script.{Call, Printed, scripts}
 use Rattle.cvm_model.specs.Cvm.{map_of}
 use Rattle.cvm_model.specs.Kernel.{JournalEntry, Put}
-use Rattle.cvm_model.specs.Paged.{paged_of}
 use Rattle.cvm_model.specs.Text.{rows_text, open_journal_rows}
+use Rattle.boot_report.specs.Resident.{page_reads}
 use Rattle.boot_turns.specs.declared.answers.View.{View}
 use Rattle.boot_turns.specs.declared.answers.View.TheVariants.{Boot, Trace}
 use Rattle.boot_turns.specs.declared.primitives.TheConstants.{VM_COPY}
@@ -28,12 +27,9 @@ prints (b ∷ text) = Printed (Some (b ∷ text)) ∷ []
 abbrev pub transfers : Environment → State → (t n : ℕ) → List Call
 transfers x s t n = scripts (λ i. script_of_step x (run x s (t + i))) n
 
--- page p of user u, by its number of all; it is read where it is in no frame
+-- page p of user u, by its number of all
 abbrev pub page_of : Map → (u p : ℕ) → ℕ
 page_of m u p = (u - 1) * m.params.pages + p
-
-abbrev pub reads_of_page : Map → State → (q : ℕ) → List Call
-reads_of_page m s q = if (paged_of m s).entry q / IS_VALID % 2 == 1 then [] else Read q ∷ []
 
 -- whether the primitive that returns here copied words to user u
 abbrev pub is_copy_to : ℕ → State → Option Entered → Bool
@@ -47,7 +43,7 @@ copies_at r u t =
 
 -- the read of the word that the first of these entries has, which was copied to user u
 abbrev pub entry_reads : Map → State → (u : ℕ) → List JournalEntry → List Call
-entry_reads m s u (Put address value ∷ rest) = reads_of_page m s (page_of m u (address / 4096))
+entry_reads m s u (Put address value ∷ rest) = page_reads m s (page_of m u (address / 4096))
 entry_reads m s u other = []
 
 -- the text that entry number k adds to the rows of a journal

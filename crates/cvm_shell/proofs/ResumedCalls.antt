@@ -8,11 +8,12 @@ use Rattle.cvm_outside.specs.Script.{Call, Performs}
 use Rattle.cvm_outside.specs.declared.sink.Sink as sink_of
 use Rattle.cvm_outside.specs.declared.sectors.Sectors as sectors_of
 use Rattle.mips_machine.specs.Steps.{outside_of}
-use Rattle.saved_file.specs.Resumable.{CanBeResumed, Wanted}
+use Rattle.saved_file.specs.Resumable.{CanBeResumed}
 use Rattle.saved_file.specs.Answer.{answer as machine_of}
 use Rattle.saved_file.specs.declared.fault.SaveFault.{SaveFault}
 use Rattle.saved_file.specs.declared.fault.SaveFault.TheVariants as saving
 use Rattle.schedule_file.specs.Rows.{Rows}
+use Rattle.layer_contract.specs.Boots.{boot_of}
 use Rattle.boot_turns.specs.Runs.{Run, turns_at, state_at, steps_made, has_ended}
 use Rattle.boot_turns.specs.declared.answers.View.TheVariants as view
 use Rattle.boot_run.specs.declared.whole.RunEnd.{RunEnd}
@@ -37,7 +38,7 @@ use Rattle.cvm_shell.specs.declared.boot.Stop.TheVariants as Stops
 use Rattle.cvm_shell.specs.declared.refusal.Refusal.TheVariants as by
 use Rattle.run_scripts.specs.Boot.{sectors_needed}
 use Rattle.run_scripts.specs.Command.{Save, save_session}
-use Rattle.run_scripts.specs.Plan.{Plan, bad_words, refuses, resumes, taken_plan, wanted_by}
+use Rattle.run_scripts.specs.Plan.{Plan, bad_words, refuses, resumes, taken_plan}
 use Rattle.run_scripts.specs.Refusal.{bad_save, small_disk, too_long, refusal_text}
 use Rattle.run_scripts.specs.RunStatus.{power_status, run_status, status_of_end}
 use Rattle.run_scripts.specs.SessionRuns.{run_of}
@@ -45,18 +46,16 @@ use Rattle.cvm_shell.specs.Stages.{resumable_for, save_stop, resume_stop}
 use Rattle.run_scripts.specs.Ends.{small, over_told, over_untold, SavedRun, Joins, answered}
 use Rattle.cvm_shell.specs.Does.{Acts, SaysAs, SaysStop, DoesPlan, DoesOrWants}
 use Rattle.machine_save.specs.declared.resuming.ResumeFault.{ResumeFault}
-use Rattle.cvm_shell.proofs.StartAnswers.{same_wanted, same_need}
+use Rattle.cvm_shell.proofs.StartAnswers.{same_need}
 use Rattle.cvm_shell.proofs.GotCalls.{beside}
 use Rattle.cvm_shell.proofs.StageEnds.{acted, refusal_plan}
 use Rattle.cvm_shell.proofs.SystemCalls.{by_end, some_status, named}
 
 -- what the bytes are answered by tells the plan
-pub answered_so : (r : Resumable) (c : Save) (P : Plan → Type 0) (a : Result (List ℕ) SaveFault) → machine_of (wanted_of r.ready.boot r.ready.schedule c.boot.turns) r.bytes.items ≡ a
+pub answered_so : (r : Resumable) (c : Save) (P : Plan → Type 0) (a : Result (List ℕ) SaveFault) → machine_of (wanted_of (boot_of r.ready.boot) r.ready.schedule.inputs c.boot.turns) r.bytes.items ≡ a
     → P (taken_plan (save_session c) (image_system r.ready.boot) r.ready.schedule a) → P (resumable_for c r)
 answered_so r c P a e h =
-    let same : a ≡ machine_of (wanted_by (image_system r.ready.boot) r.ready.schedule c.boot.turns) r.bytes.items =
-    sym e ∙ ap (λ (w : Wanted). machine_of w r.bytes.items) (same_wanted r.ready.boot r.ready.schedule c.boot.turns) in
-    subst (λ (x : Result (List ℕ) SaveFault). P (taken_plan (save_session c) (image_system r.ready.boot) r.ready.schedule x)) same h
+    subst (λ (x : Result (List ℕ) SaveFault). P (taken_plan (save_session c) (image_system r.ready.boot) r.ready.schedule x)) (sym e) h
 
 -- the plan is of a command, and refuses no file that is too long
 pub taken_words : (session : Session) (s : ImageSystem) (rows : Rows) (a : Result (List ℕ) SaveFault) → taken_plan session s rows a ≢ bad_words
@@ -72,7 +71,7 @@ not_told left e = cc
 
 -- A MACHINE WAS TAKEN UP, and its run went on
 module _ {O D : Type 0} (text : sink_of.Ghosts O) (told : sectors_of.Ghosts D) (r : Ready) (c : Save) (bytes words : List ℕ) (out reout : O) (disk redisk : D) (shelf : Files) (e : RunEnd)
-    (spells : bytes ≡ flat_map word words) (can : CanBeResumed (wanted_of r.boot r.schedule c.boot.turns) words) (room : pages_needed r.boot ≤ told.size disk)
+    (spells : bytes ≡ flat_map word words) (can : CanBeResumed (wanted_of (boot_of r.boot) r.schedule.inputs c.boot.turns) words) (room : pages_needed r.boot ≤ told.size disk)
     (script : ResumeScript text told r.boot r.schedule c.boot.turns c.boot.steps bytes (out, disk) (reout, redisk) (Ok e)) where
   abbrev s : ImageSystem
   s = image_system r.boot
@@ -98,7 +97,7 @@ module _ {O D : Type 0} (text : sink_of.Ghosts O) (told : sectors_of.Ghosts D) (
       (subst (λ (n : ℕ). 1 ≤ n) turns can.a_turn) (subst (λ (n : ℕ). n ≤ c.boot.turns) turns can.turns) in
       (h.made shelf, sym stands ∙ by_end e (due_end q past) (run_status q past) h.is refl)) a
 
-  pub went_on_does : machine_of (wanted_of r.boot r.schedule c.boot.turns) bytes ≡ Ok words → DoesPlan (resumes (save_session c) s r.schedule words) before after (status_of_end e)
+  pub went_on_does : machine_of (wanted_of (boot_of r.boot) r.schedule.inputs c.boot.turns) bytes ≡ Ok words → DoesPlan (resumes (save_session c) s r.schedule words) before after (status_of_end e)
   went_on_does is = of (told.sectors disk) refl
     where
       of : (sectors : Option (List (List ℕ))) → told.sectors disk ≡ sectors → DoesPlan (resumes (save_session c) s r.schedule words) before after (status_of_end e)

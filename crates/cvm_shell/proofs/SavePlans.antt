@@ -16,6 +16,7 @@ use Rattle.cvm_shell.specs.declared.refusal.Refusal.{Refusal as ByCode}
 use Rattle.cvm_shell.specs.declared.refusal.Refusal.TheVariants as by
 use Rattle.run_scripts.specs.Command.{Save, save, save_session}
 use Rattle.run_scripts.specs.Refusal.{bad_save}
+use Rattle.run_scripts.proofs.PlansAreAsked.{short_plan}
 use Rattle.run_scripts.specs.Plan.{Plan, refuses, boots, saves, frames_of, most_bytes, saved_plan, take_up_plan, AfterFiles, AfterThree, IsPlan}
 use Rattle.cvm_shell.specs.Stages.{save_stop, HasNoSaveRoom, IsBootPlan, FilesPlan}
 use Rattle.cvm_shell.specs.Views.{refusal_view, IfRefused}
@@ -39,22 +40,11 @@ save_stopped layer file c Memory h = tt
 below : (n m : ℕ) → n < m → nat_lt n m ≡ true
 below n m h = grind (arith, nat_tests)
 
-not_below : (n m : ℕ) → m ≤ n → nat_lt n m ≡ false
-not_below n m h = grind (arith, nat_tests)
-
--- there is room
-chosen : (b : Bool) (p q : Plan) → b ≡ false → (if b then p else q) ≡ q
-chosen true p q e = absurd cc
-chosen false p q e = refl
-
 chosen_first : (b : Bool) (p q : Plan) → b ≡ true → (if b then p else q) ≡ p
 chosen_first true p q e = refl
 chosen_first false p q e = absurd cc
 
-pub short_plan : (session : Session) (s : ImageSystem) (rows : Rows) (name : List ℕ) → most_bytes s ≤ FILE_ROOM → saved_plan name (boots session s rows) ≡ saves session s rows name
-short_plan session s rows name few =
-    chosen (nat_lt FILE_ROOM (most_bytes s)) (refuses (bad_save (saving.SaveTooLarge (most_bytes s)))) (saves session s rows name) (not_below FILE_ROOM (most_bytes s) few)
-
+-- there is room
 pub save_short : (layer : Layers) (file : Told) (c : Save) (s : ImageSystem) (rows : Rows) → IsBootPlan layer file c.boot (save_session c) (boots (save_session c) s rows) → most_bytes s ≤ FILE_ROOM
     → FilesPlan layer file (save c) (saves (save_session c) s rows c.file)
 save_short layer file c s rows is few =

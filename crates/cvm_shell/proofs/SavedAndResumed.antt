@@ -7,12 +7,11 @@ use Rattle.layer_contract.specs.Follows.{loaded}
 use Rattle.layer_contract.specs.Starts.{user_sectors}
 use Rattle.run_scripts.specs.RanFrom.{RanFrom}
 use Rattle.boot_turns.specs.declared.answers.View.TheVariants as view
-use Rattle.boot_run.specs.SavedRuns.{IsDisk}
+use Rattle.boot_run.specs.SavedRuns.{SavedAt, IsDisk}
 use Rattle.boot_run.specs.SaveRoom.{FILE_ROOM}
 use Rattle.run_scripts.specs.Plan.{whole}
 use Rattle.run_scripts.specs.Boot.{booted, environment_of}
 use Rattle.run_scripts.specs.Resumes.{IsHonestResume, SavedAndResumedAreBooted}
-use Rattle.run_scripts.specs.Saves.{IsSavedAt}
 
 pub saved_and_resumed : SavedAndResumedAreBooted
 saved_and_resumed c d s rows before first mid old new words status a clause asked l memory =
@@ -30,8 +29,8 @@ saved_and_resumed c d s rows before first mid old new words status a clause aske
     } in
     let y = booted s rows in
     let disk : IsDisk old.disk.size before = subst (λ (n : ℕ). IsDisk n before) (sym l.size) a.disk in
-    let saved : IsSavedAt (environment_of rows old) y (loaded y before) c.boot.turns c.boot.steps a.words a.after a.shown =
-    subst (λ (n : ℕ). IsSavedAt (outside_of rows n) y (loaded y before) c.boot.turns c.boot.steps a.words a.after a.shown) (sym l.size) a.saved_at in
+    let saved : SavedAt (environment_of rows old) y (loaded y before) c.boot.turns c.boot.steps a.words a.after a.shown =
+    subst (λ (n : ℕ). SavedAt (outside_of rows n) y (loaded y before) c.boot.turns c.boot.steps a.words a.after a.shown) (sym l.size) a.saved_at in
     let whole = (clause d s rows a.words a.after honest memory).joins before a.shown
     (record { turns = c.boot.turns; steps = c.boot.steps; disk = disk; fewer = l.steps; saved_at = saved }) in
     record {

@@ -1,7 +1,6 @@
 -- What is done of the plan of a save, by the calls of the call that runs its system and puts its file.
-use Rattle.std.proofs.Common.{◌≡◌, ◌≢◌, inl, inr, ℕ, ◌-◌, ◌≤◌, Bool, true, false, List, [], ◌++◌, append-nil, refl, sym, ap, ◌∙◌, subst, Some, None, Ok, Err}
-use Rattle.std.specs.Prelude.{Option, Result, OnErr, if◌then◌else◌}
-use Rattle.cvm_outside.specs.Outside.{Outside}
+use Rattle.std.proofs.Common.{◌≡◌, inl, inr, ℕ, ◌-◌, ◌≤◌, Bool, true, false, List, [], ◌++◌, append-nil, refl, sym, ap, ◌∙◌, subst, Some, None, Ok, Err}
+use Rattle.std.specs.Prelude.{Option, Result, if◌then◌else◌}
 use Rattle.cvm_outside.specs.Script.{Call}
 use Rattle.cvm_outside.specs.declared.shelf.Shelf as shelf_of
 use Rattle.cvm_outside.specs.declared.sink.Sink as sink_of
@@ -11,7 +10,6 @@ use Rattle.layer_contract.specs.Follows.{loaded}
 use Rattle.boot_turns.specs.LoopScripts.{AreOfRun}
 use Rattle.boot_turns.specs.Runs.{Run, steps_made, has_ended, cvm_at}
 use Rattle.boot_run.specs.declared.load.LoadFault.{LoadFault}
-use Rattle.boot_run.specs.declared.load.LoadFault.TheVariants as load
 use Rattle.boot_run.specs.declared.whole.RunEnd.{RunEnd}
 use Rattle.boot_run.specs.declared.whole.RunEnd.TheVariants as ends
 use Rattle.boot_run.specs.Loading.{system_of as loaded_system}
@@ -85,18 +83,6 @@ some_save name begin more left (Ok ends.KernelFaulted) begun are e = none_left n
 some_save name begin more left (Ok ends.OutOfSteps) begun are e = none_left name begin more left (Ok ends.OutOfSteps) begun are e
 some_save name begin more left (Ok ends.DiskFault) begun are e = none_left name begin more left (Ok ends.DiskFault) begun are e
 some_save name begin more left (Err f) begun are e = none_left name begin more left (Err f) begun are e
-
--- nothing was called where nothing is loaded
-module _ {S O D : Type 0} (see : S → O → D → Outside) (s s1 : S) (o o1 : O) (d d1 : D) where
-  same_all : ◌≡◌ {A = S × O × D} (s1, o1, d1) (s, o, d) → see s1 o1 d1 ≡ see s o d
-  same_all e = ap (λ (q : S × O × D). see q.0 q.1 q.2) e
-
-  pub unmoved_all : (answer : Result RunEnd LoadFault) → (loads answer ≡ false → ◌≡◌ {A = S × O × D} (s1, o1, d1) (s, o, d)) → answer ≢ Err load.Disk → OnErr answer (see s1 o1 d1 ≡ see s o d)
-  unmoved_all (Ok x) none other = tt
-  unmoved_all (Err load.Disk) none other = absurd (other refl)
-  unmoved_all (Err load.Memory) none other = same_all (none refl)
-  unmoved_all (Err (load.SmallDisk need have)) none other = same_all (none refl)
-  unmoved_all (Err (load.NoSuchUser user users)) none other = same_all (none refl)
 
 -- A RUN WAS BEGUN that is to be saved
 module _ {S O D : Type 0} (shelf : shelf_of.Ghosts S) (text : sink_of.Ghosts O) (told : sectors_of.Ghosts D) (r : Ready) (c : Save) (s s1 : S) (o o1 : O) (d d1 : D) where

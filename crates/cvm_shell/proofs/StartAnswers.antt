@@ -10,16 +10,10 @@ use Rattle.boot_run.specs.LoadEnds.{pages_needed, rom_needed, HasDiskRoom, LoadF
 use Rattle.boot_run.specs.declared.load.LoadFault.{LoadFault}
 use Rattle.boot_run.specs.declared.whole.RunEnd.{RunEnd}
 use Rattle.kernel_linker.specs.Accept.{image_system}
-use Rattle.layer_map.specs.Map.{memory_frames}
-use Rattle.cvm_model.specs.Cvm.{map_of}
-use Rattle.layer_contract.specs.Boots.{boot_of}
-use Rattle.saved_file.specs.Resumable.{Wanted}
 use Rattle.boot_run.specs.RunEnds.{SeesUser}
-use Rattle.boot_run.specs.SavedFiles.{wanted_of}
 use Rattle.boot_run.specs.SavedRuns.{IsDisk}
 use Rattle.boot_run.proofs.Premises.{are_pages}
 use Rattle.cvm_outside.specs.Told.{IsSector}
-use Rattle.run_scripts.specs.Plan.{wanted_by}
 use Rattle.cvm_shell.specs.declared.boot.Ready.{Ready}
 use Rattle.run_scripts.specs.declared.session.Session.{Session}
 use Rattle.run_scripts.specs.declared.session.StartPoint.{StartPoint}
@@ -46,14 +40,6 @@ from start session = record { start = start; view = session.view; turns = sessio
 -- the users are counted alike
 pub same_sight : (booted : Booted) (v : View) → SeesUser v (length booted.users.items) → SeesUser v (length (image_system booted).users)
 same_sight booted v = subst (SeesUser v) (same_count booted)
-
--- what a saved machine has to fit is the same of what is booted and of its system
-abbrev with_users : Booted → Rows → (turns users : ℕ) → Wanted
-with_users b rows turns n =
-    record { frames = memory_frames (map_of (boot_of b)); users = n; pages = b.params.pages; inputs = rows.inputs; linked = b.words.items; turns = turns }
-
-pub same_wanted : (b : Booted) (rows : Rows) (turns : ℕ) → wanted_of b rows turns ≡ wanted_by (image_system b) rows turns
-same_wanted b rows turns = ap (with_users b rows turns) (same_count b)
 
 -- what a call says of a run that needs so many sectors, at its session's start
 module _ {need : ℕ} (r : Ready) (session : Session) (start : StartPoint) (same : need ≡ held_of start (booted (image_system r.boot) r.schedule)) (is : session.start ≡ start) where

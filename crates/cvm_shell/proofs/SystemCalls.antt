@@ -1,6 +1,6 @@
 -- What is done of the plan of a run, by the calls of the call that loads its system and runs it.
-use Rattle.std.proofs.Common.{◌≡◌, ◌≢◌, ◌⊎◌, inl, inr, ℕ, ◌<◌, ◌≤◌, ◌++◌, true, List, length, refl, sym, ap, ◌∙◌, ap₂, subst, Some, None, Ok, Err}
-use Rattle.std.specs.Prelude.{Option, Result, IfErr, OnErr}
+use Rattle.std.proofs.Common.{◌≡◌, ◌≢◌, ◌⊎◌, inl, inr, ℕ, ◌<◌, ◌≤◌, ◌++◌, true, false, List, length, refl, sym, ap, ◌∙◌, subst, Some, None, Ok, Err}
+use Rattle.std.specs.Prelude.{Option, Result, OnErr}
 use Rattle.cvm_outside.specs.Outside.{Outside, Files, Drive, output, drive}
 use Rattle.cvm_outside.specs.Script.{Call, Who}
 use Rattle.cvm_outside.specs.declared.sink.Sink as sink_of
@@ -184,10 +184,13 @@ as_err A f = Err f
 pub one_err : {A : Type 0} (f g : LoadFault) → as_err A f ≡ as_err A g → f ≡ g
 one_err f g e = cc
 
--- nothing was called where nothing is loaded
-pub unmoved : {A O D : Type 0} (answer : Result A LoadFault) (see : O → D → Outside) (o o1 : O) (d d1 : D) → IfErr answer (λ e. o1 ≡ o) → OnErr answer (d1 ≡ d) → OnErr answer (see o1 d1 ≡ see o d)
-unmoved (Ok x) see o o1 d d1 h k = tt
-unmoved (Err e) see o o1 d d1 h k = ap₂ see h k
+-- nothing was called where nothing is loaded, as it is seen
+pub unmoved : {X : Type 0} {old new : X} (answer : Result RunEnd LoadFault) → (loads answer ≡ false → new ≡ old) → (see : X → Outside) → answer ≢ Err load.Disk → OnErr answer (see new ≡ see old)
+unmoved (Ok x) none see other = tt
+unmoved (Err load.Disk) none see other = absurd (other refl)
+unmoved (Err load.Memory) none see other = ap see (none refl)
+unmoved (Err (load.SmallDisk need have)) none see other = ap see (none refl)
+unmoved (Err (load.NoSuchUser user users)) none see other = ap see (none refl)
 
 -- WHAT WAS SAID of a run, beside these files and this disk
 module _ {O : Type 0} (text : sink_of.Ghosts O) (r : Ready) (session : Session) (put : Option (List ℕ)) (shelf : Files) (disk : Drive) (o o' : O) (old : Outside) (status : Status) where

@@ -1,8 +1,9 @@
 -- The words of users, file by file: those that were read stand before what the files that are left come to.
-use Rattle.std.proofs.Common.{◌≡◌, ℕ, suc, ◌+◌, ◌*◌, ◌<◌, ◌%◌, List, [], ◌∷◌, ◌++◌, length, map, drop, get_or, Vec, Global, refl, sym, ap, ◌∙◌, arith, append_assoc, Ok, Err, eq-eqb}
+use Rattle.std.proofs.Common.{◌≡◌, ℕ, suc, ◌+◌, ◌<◌, ◌%◌, List, [], ◌∷◌, ◌++◌, length, map, drop, get_or, Vec, Global, refl, sym, ap, ◌∙◌, arith, append_assoc, Ok, Err, eq-eqb}
 use Rattle.std.specs.Prelude.{Result, flat_map}
-use Rattle.std.proofs.lemmas.List.{length-append, drop_more}
+use Rattle.std.proofs.lemmas.List.{drop_more}
 use Rattle.cvm_words.specs.Bytes.{word, words_of_bytes}
+use Rattle.cvm_words.proofs.BytesOfWords.{length-words}
 use Rattle.system_files.specs.declared.fault.FileFault.{FileFault}
 use Rattle.run_scripts.specs.Plan.{user_words_from, before_them}
 
@@ -12,16 +13,8 @@ behind users (Ok rest) = Ok (users ++ rest)
 behind users (Err f) = Err f
 
 -- the words of a file
-length_word : (n : ℕ) → length (word n) ≡ 4
-unfolding word
-length_word n = refl
-
-pub length_words : (words : List ℕ) → length (flat_map word words) ≡ 4 * length words
-length_words [] = refl
-length_words (w ∷ words) = omega (arith, length-append (word w) (flat_map word words), length_word w, length_words words)
-
 whole_words : (words bytes : List ℕ) → flat_map word words ≡ bytes → length bytes % 4 ≡ 0
-whole_words words bytes e = omega (arith, length_words words, ap length e)
+whole_words words bytes e = omega (arith, length-words words, ap length e)
 
 read_next : (user : ℕ) (bytes : List ℕ) (rest : List (List ℕ)) → length bytes % 4 ≡ 0 → user_words_from user (bytes ∷ rest) ≡ before_them (words_of_bytes bytes) (user_words_from (suc user) rest)
 read_next user bytes rest e = rw (eq-eqb (length bytes % 4) 0 e) refl

@@ -42,6 +42,7 @@ use Rattle.saved_file.specs.Answer.{answer as machine_of}
 use Rattle.saved_file.specs.declared.fault.SaveFault.{SaveFault}
 use Rattle.saved_file.specs.declared.fault.SaveFault.TheVariants as saving
 use Rattle.boot_run.specs.SaveRoom.{FILE_ROOM}
+use Rattle.boot_run.specs.SavedFiles.{wanted_of}
 use Rattle.cvm_shell.specs.declared.boot.Ready.{Ready}
 use Rattle.cvm_shell.specs.declared.saving.Saveable.{Saveable}
 use Rattle.cvm_shell.specs.declared.resuming.Resumable.{Resumable}
@@ -52,7 +53,7 @@ use Rattle.run_scripts.specs.declared.exit_status.Status.TheVariants.{Shelf}
 use Rattle.std.specs.Global.{Vec}
 use Rattle.run_scripts.specs.declared.session.Session.{Session}
 use Rattle.run_scripts.specs.Command.{BootCommand, Save, Command, boot, save_session}
-use Rattle.run_scripts.specs.Plan.{Plan, puts, boots, saves, most_bytes, wanted_by, taken_plan, BootPlan, CommandPlan, FilesAreTold, IsPlan, user_words_from, prints}
+use Rattle.run_scripts.specs.Plan.{Plan, puts, boots, saves, most_bytes, taken_plan, BootPlan, CommandPlan, FilesAreTold, IsPlan, user_words_from, prints, boot_of_image}
 use Rattle.cvm_shell.specs.Views.{IfPlan}
 use Rattle.run_scripts.specs.Boot.{booted, sectors_needed}
 use Rattle.run_scripts.specs.Ends.{IsByte}
@@ -169,7 +170,7 @@ saveable_for c r = saves (save_session c) (image_system r.ready.boot) r.ready.sc
 abbrev pub resumable_for : Save → Resumable → Plan
 resumable_for c r =
     taken_plan (save_session c) (image_system r.ready.boot) r.ready.schedule
-    (machine_of (wanted_by (image_system r.ready.boot) r.ready.schedule c.boot.turns) r.bytes.items)
+    (machine_of (wanted_of (boot_of_image (image_system r.ready.boot)) r.ready.schedule.inputs c.boot.turns) r.bytes.items)
 
 -- why there is no room for a saved machine of a system: its file may be too long, or there was no memory
 abbrev pub HasNoSaveRoom : ImageSystem → Stop → Type 0

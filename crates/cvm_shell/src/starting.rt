@@ -1,5 +1,5 @@
 // A system is loaded for its session's start, and run.
-ghost use Rattle.std.specs.Prelude.{◌≡◌, ◌≢◌, ◌≤◌, IfErr, OnErr, Err};
+ghost use Rattle.std.specs.Prelude.{◌≤◌};
 ghost use Rattle.cvm_shell.specs.Does.{SessionCalls, SessionPasts};
 ghost use Rattle.cvm_shell.specs.Stages.{within, AnswersAs, SystemFollows};
 
@@ -22,8 +22,6 @@ pub(crate) fn load_and_run<O: Sink, D: Sectors>(
     ensures answers { AnswersAs ready session (within O.Sink D.Sectors) result (out.old, disk.old) (out.new, disk.new) }
     ensures calls { SessionCalls O.Sink D.Sectors ready session result (out.old, disk.old) (out.new, disk.new) }
     ensures pasts { SessionPasts ready session (D.size disk.old) (D.sectors disk.old) }
-    ensures unprinted { IfErr result (λ _. out.new ≡ out.old) }
-    ensures still { result ≢ Err LoadFault.Disk → OnErr result (disk.new ≡ disk.old) }
 {
     pasts_exist(&ready.layer, &ready.boot, &ready.schedule, disk);
     let limits = Limits {

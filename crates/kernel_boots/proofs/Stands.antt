@@ -25,6 +25,7 @@ use Rattle.run_scripts.specs.RanFrom.{ending, TextAt, RanFrom}
 use Rattle.boot_turns.specs.TurnEnds.{first_user_machine, Stood, Printed, TurnIsOver, RestsAfter}
 use Rattle.boot_run.specs.RunEnds.{SeesUser}
 use Rattle.boot_run.specs.RunScript.{saved_row}
+use Rattle.boot_run.specs.SavedRuns.{SavedAt}
 use Rattle.kernel_linker.specs.Accept.{ImageSystem}
 use Rattle.run_scripts.specs.declared.exit_status.Status.{Status}
 use Rattle.run_scripts.specs.declared.exit_status.Status.TheVariants as statuses
@@ -33,7 +34,7 @@ use Rattle.run_scripts.specs.Command.{Save, save_session}
 use Rattle.cvm_outside.specs.Outside.{Outside}
 use Rattle.run_scripts.specs.Boot.{booted, environment_of, start_state, sectors_needed, AreFilesOf, Headline}
 use Rattle.run_scripts.specs.Isolation.{IsolatedTrace, session_lines}
-use Rattle.run_scripts.specs.Saves.{Stopped, IsSavedIn, SaveHolds, as_boot, is_saved, IsSavedAt}
+use Rattle.run_scripts.specs.Saves.{Stopped, IsSavedIn, SaveHolds, as_boot, is_saved}
 use Rattle.run_scripts.specs.Resumes.{IsBootBehind}
 use Rattle.kernel_boots.specs.Boots.{SessionStands, BootStands}
 use Rattle.kernel_boots.specs.Stands.{entries_under_way, TraceTextOf, TraceStandsAt, TracesStand, SavedStands, SaveStands, SavesStand, ResumesStand}
@@ -196,7 +197,7 @@ stood_there x y s one count sums (suc few) steps at past last some end within on
 saved_stands : RunsAreLawful → TurnLaws → SumLaws → (c : Save) (s : ImageSystem) (rows : Rows) (before : List (List ℕ)) (old new : Outside) → 1 ≤ c.boot.turns
     → Stopped (save_session c) s rows before old new (IsSavedIn c.file old new) → SavedStands c s rows before old new
 saved_stands laws count sums c s rows before old new some h =
-    let w : IsSavedAt (environment_of rows old) (booted s rows) (start_state (save_session c) s rows before) c.boot.turns c.boot.steps h.words h.after h.shown = h.saved_at in
+    let w : SavedAt (environment_of rows old) (booted s rows) (start_state (save_session c) s rows before) c.boot.turns c.boot.steps h.words h.after h.shown = h.saved_at in
     let stood : Stood (environment_of rows old) (booted s rows) (start_state (save_session c) s rows before) c.boot.turns w.at w.past =
     stood_there (environment_of rows old) (booted s rows) (start_state (save_session c) s rows before) (ones laws s rows) count sums c.boot.turns c.boot.steps w.at w.past h.ran.past some w.end w.within w.on w.cvm h.ran.cvm h.ran.over in
     record {

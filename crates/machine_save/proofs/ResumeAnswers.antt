@@ -9,6 +9,7 @@ use Rattle.mips_machine.specs.Saved.{saved, CanBeSaved}
 use Rattle.mips_machine.specs.Steps.{outside_of}
 use Rattle.layer_contract.specs.declared.boot.Boot.{Boot as Booted}
 use Rattle.layer_contract.specs.Follows.{loaded}
+use Rattle.layer_contract.specs.Boots.{boot_of}
 use Rattle.saved_file.specs.Answer.{answer}
 use Rattle.saved_file.specs.declared.fault.SaveFault.TheVariants.{Memory}
 use Rattle.boot_run.specs.Loading.{system_of}
@@ -48,15 +49,15 @@ done_few layer b rows turns count bytes r (words, up, (is, spelled, can, room)) 
 -- the bytes of a saved run are read back as its words
 pub read_back : (b : Booted) (rows : Rows) (turns steps count : ℕ) (bytes : List ℕ) (old left : List (List ℕ)) (few spent : ℕ) (words shown : List ℕ) → AreTakenUp b rows count → turns < 2 ^ 32 → steps < 2 ^ 64 → IsDisk count old →
     pages_needed b ≤ count → SavedAt (outside_of rows count) (system_of b rows) (loaded (system_of b rows) old) few spent words left shown → bytes ≡ flat_map word words → 1 ≤ few → few ≤ turns → spent ≤ steps →
-    answer (wanted_of b rows turns) bytes ≡ Ok words
+    answer (wanted_of (boot_of b) rows.inputs turns) bytes ≡ Ok words
 read_back b rows turns steps count bytes old left few spent words shown up bits limit disk room at spelled some enough within =
-    subst (λ (l : List ℕ). answer (wanted_of b rows turns) l ≡ Ok words) (sym spelled)
+    subst (λ (l : List ℕ). answer (wanted_of (boot_of b) rows.inputs turns) l ≡ Ok words) (sym spelled)
     (up old left few spent turns words shown room disk at some enough bits (omega (arith, within, limit))).1
 
 pub no_memory : {L : Type 0} (layer : L) (b : Booted) (rows : Rows) (turns count : ℕ) (bytes words : List ℕ) (fault : ResumeFault) → ResumesFile layer b rows turns count bytes (Err fault) → pages_needed b ≤ count →
-    answer (wanted_of b rows turns) bytes ≡ Ok words → fault ≡ Save Memory
+    answer (wanted_of (boot_of b) rows.inputs turns) bytes ≡ Ok words → fault ≡ Save Memory
 no_memory layer b rows turns count bytes words (Save e) (inl memory) room is = ap Save memory
-no_memory layer b rows turns count bytes words (Save e) (inr fails) room is = absurd (no_answer (answer (wanted_of b rows turns) bytes) words e is fails)
+no_memory layer b rows turns count bytes words (Save e) (inr fails) room is = absurd (no_answer (answer (wanted_of (boot_of b) rows.inputs turns) bytes) words e is fails)
 no_memory layer b rows turns count bytes words (SmallDisk need have) (other, back, wants, has, less) room is = absurd (omega (arith, wants, has, less, room))
 
 -- ANY WORDS name the machine of the run that is taken up of them

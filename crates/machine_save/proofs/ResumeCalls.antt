@@ -1,7 +1,7 @@
 -- The script of a resume, by that of the run that was taken up.
-use Rattle.std.proofs.Common.{◌≡◌, ◌≢◌, ℕ, suc, ◌+◌, ◌-◌, ◌<◌, ◌≤◌, ◌^◌, Bool, true, false, not, Option, Some, None, List, ◌++◌, Ok, Err}
+use Rattle.std.proofs.Common.{◌≡◌, ◌≢◌, ℕ, suc, ◌-◌, ◌<◌, ◌≤◌, ◌^◌, Bool, true, false, not, Option, Some, None, List, Ok, Err}
 use Rattle.std.proofs.Common.{refl, sym, ap, ◌∙◌, subst, arith}
-use Rattle.std.specs.Prelude.{is_some, ◌&&◌, ◌||◌, ◌==◌}
+use Rattle.std.specs.Prelude.{is_some, ◌||◌, ◌==◌}
 use Rattle.std.specs.List.{flat_map}
 use Rattle.std.proofs.lemmas.Bool.{eq-eqb}
 use Rattle.cvm_words.specs.Bytes.{word}
@@ -11,22 +11,24 @@ use Rattle.schedule_file.specs.Rows.{Rows}
 use Rattle.mips_table.specs.Device.{Environment}
 use Rattle.mips_table.specs.Machine.{State}
 use Rattle.mips_table.specs.Steady.{StartSteady}
-use Rattle.mips_table.specs.Turns.{in_user, is_end, end_within, IsTurnEnd, SumLaws, TurnLaws}
+use Rattle.mips_table.specs.Turns.{in_user, is_end, end_within, IsTurnEnd, TurnLaws}
 use Rattle.mips_machine.specs.Machine.{state_of}
 use Rattle.mips_machine.specs.Saved.{saved}
 use Rattle.mips_machine.specs.Steps.{outside_of}
 use Rattle.c0_tree.specs.Tree.{CUnit}
+use Rattle.c0_tree.specs.View.{unit_view}
 use Rattle.c0_meaning.specs.TypedState.{IsTypedState}
-use Rattle.cvm_model.specs.Cvm.{System, Status, Running, Cvm, IsCvm}
+use Rattle.cvm_model.specs.Cvm.{Status, IsCvm}
 use Rattle.cvm_model.specs.declared.row.Next.{Next}
 use Rattle.cvm_model.specs.Stands.{runs_user}
 use Rattle.cvm_model.specs.Text.{rows_text}
 use Rattle.layer_contract.specs.declared.boot.Boot.{Boot as Booted}
 use Rattle.layer_contract.specs.Layer.{Rests}
 use Rattle.layer_contract.specs.Starts.{user_sectors}
+use Rattle.layer_contract.specs.Boots.{boot_of}
 use Rattle.boot_turns.specs.Completes.{state_seen}
 use Rattle.boot_turns.specs.RunMachines.{RunMachines, MachinesRun}
-use Rattle.boot_turns.specs.Runs.{Run, Past, IsPast, state_at, turns_at, steps_made, lines_met, cvm_at}
+use Rattle.boot_turns.specs.Runs.{Run, Past, state_at, turns_at, steps_made, lines_met, cvm_at}
 use Rattle.boot_turns.specs.Sooner.{ComesTo}
 use Rattle.boot_turns.specs.TurnEnds.{RestsAfter, TurnIsOver}
 use Rattle.boot_turns.specs.declared.answers.RunFault.{RunFault}
@@ -38,15 +40,16 @@ use Rattle.boot_run.specs.declared.whole.RunEnd.{RunEnd}
 use Rattle.boot_run.specs.AnyScripts.{EndsUntold, RestUntold}
 use Rattle.boot_run.specs.Loading.{system_of}
 use Rattle.boot_run.specs.LoadEnds.{Kept, pages_needed}
-use Rattle.boot_run.specs.Pieces.{Bootable, FirstAt}
+use Rattle.boot_run.specs.Pieces.{FirstAt}
 use Rattle.boot_run.specs.Resuming.{taken_up, TakesUp}
-use Rattle.boot_run.specs.RunCalls.{run_at, begin_script, due_end, RunEndsBy, RestCalls}
+use Rattle.boot_run.specs.RunCalls.{run_at, due_end, RunEndsBy, RestCalls, end_by, all_calls, RunPerformsAt}
 use Rattle.boot_run.specs.RunScript.{WasSaved, rest_script}
 use Rattle.boot_run.specs.SavedFiles.{wanted_of}
 use Rattle.boot_run.specs.SavedRuns.{SavedAt, IsDisk}
 use Rattle.boot_run.specs.Saving.{IsResumed, IsTakenUp}
 use Rattle.boot_run.specs.TurnCalls.{Around, run_around, ReadyAt}
 use Rattle.boot_run.proofs.AbstractRuns.{turns_up_to}
+use Rattle.boot_run.proofs.SavedTakenUp.{on_of}
 use Rattle.boot_run.proofs.TurnToTurn.{no_end}
 use Rattle.boot_run.proofs.GoScripts.{no_sooner}
 use Rattle.boot_run.proofs.TurnLoop.{machines}
@@ -78,17 +81,6 @@ around_is r h told left budget is =
     ∙ ap (λ f. met (state_seen told r.machine) r.machine.time budget r.turns r.current r.ended f None) (sym h.fault)
     ∙ ap (λ o. met (state_seen told r.machine) r.machine.time budget r.turns r.current r.ended r.fault o) (sym h.tracer)
 
--- what a loaded run's contract says of the rest of it, of what is booted
-abbrev RestAt : {L O D : Type 0} → sink_of.Ghosts O → sectors_of.Ghosts D → Kept L → Booted → Rows → View → (size turns budget : ℕ) → O → D → O → D →
-    RunEnd → Type 0
-RestAt text told r b rows v size turns budget o d o1 d1 e =
-    (y : System) (s : State) (late held : ℕ) (old : List (List ℕ)) (k t wanted steps : ℕ) (c : Cvm) → Bootable b rows size y s late held old →
-    FirstAt (outside_of rows size) s k t → 1 ≤ wanted → k + turns ≡ wanted → budget + t ≡ steps →
-    ReadyAt (outside_of rows size) y s v k t c (run_around r (told.sectors d) budget) → c.status ≡ Running →
-    (p : Past) → IsPast (run_at (outside_of rows size) y s v wanted steps) p →
-    RunEndsBy text told (o, d) (o1, d1) (begin_script (run_at (outside_of rows size) y s v wanted steps) k
-    ++ rest_script (run_at (outside_of rows size) y s v wanted steps) p t) (due_end (run_at (outside_of rows size) y s v wanted steps) p) e
-
 -- what is no end of a run: other turns are complete, and the machine is on
 not_over : (same : Bool) (o : Option ℕ) → (same || not (not (is_some o))) ≡ false → (same ≡ false) × (o ≡ None)
 not_over true o e = absurd (cc)
@@ -98,13 +90,8 @@ not_over false (Some word) e = absurd (cc)
 other_turns : (a b : ℕ) → (a == b) ≡ false → a ≢ b
 other_turns a b none same = absurd (let e : true ≡ false = sym (eq-eqb a b same) ∙ none in cc)
 
--- a machine that runs a user is on
-on_of : (o : Option ℕ) (user : Bool) → (not (is_some o) && user) ≡ true → o ≡ None
-on_of None user h = refl
-on_of (Some word) user h = absurd (cc)
-
 -- WHERE A RUN WAS SAVED it stands with all turns complete that have begun, and its machine runs a user
-module _ (counts : TurnLaws) (sums : SumLaws) (r : Run) (late held : ℕ) (m : RunMachines r.around r.system r.first late held) (p : Past)
+module _ (counts : TurnLaws) (r : Run) (late held : ℕ) (m : RunMachines r.around r.system r.first late held) (p : Past)
     (words : List ℕ) (left : List (List ℕ)) (made : ℕ) (w : WasSaved r p words left made) (less : turns_at r made ≤ r.turns) where
   goes_before : (j : ℕ) → j < made → is_end r.around r.first r.turns j ≡ false
   goes_before j lt =
@@ -144,30 +131,22 @@ module _ (counts : TurnLaws) (sums : SumLaws) (r : Run) (late held : ℕ) (m : R
     first_end = subst (λ (i : ℕ). IsTurnEnd r.around r.first i made) some w.first
 
     pub saved_at : SavedAt r.around r.system r.first (suc few) made words left (rows_text (cvm_at r p made).rows)
-    saved_at =
-        let there = sums.rests r.around r.first few made first_end (ap (λ (o : Option ℕ). not (is_some o)) on) in
-        record {
-          at = made;
-          past = cvm_at r p made;
-          end = first_end;
-          within = omega arith;
-          on = on;
-          stood = record {
-            cvm = subst (λ (i : ℕ). IsCvm r.system (lines_met r) i (cvm_at r p made)) some now_is;
-            turn = sym there.1 ∙ there.0;
-            all = there.0;
-            rests = rests;
-          };
-          words_are = w.words_are ∙ ap (λ (i : ℕ). saved r.system.input (state_at r made) i (cvm_at r p made).core.current) some;
-          left_is = w.left_is;
-          shown_is = refl;
-        }
+    saved_at = record {
+      at = made;
+      past = cvm_at r p made;
+      end = first_end;
+      within = omega arith;
+      on = on;
+      cvm = subst (λ (i : ℕ). IsCvm r.system (lines_met r) i (cvm_at r p made)) some now_is;
+      words_are = w.words_are ∙ ap (λ (i : ℕ). saved r.system.input (state_at r made) i (cvm_at r p made).core.current) some;
+      left_is = w.left_is;
+      shown_is = refl;
+    }
 
 -- what the laws say of machines and of runs that are taken up
 pub record ResumeLaws : Type 0 where
   pub machines : (u : CUnit) → MachinesRun (IsTypedState u)
   pub counts : TurnLaws
-  pub sums : SumLaws
   pub steady : StartSteady
   pub takes : TakesUp
 
@@ -191,10 +170,10 @@ module _ (law : ResumeLaws) (b : Booted) (rows : Rows) (turns steps count : ℕ)
 
   at : SavedAt r.around r.system r.first (suc few) made words left shown
   at =
-      saved_at law.counts law.sums r 1 (user_sectors r.system)
+      saved_at law.counts r 1 (user_sectors r.system)
       (machines law.machines b rows count r.system r.first 1 (user_sectors r.system) sectors (boots room sectors disk)) p words left made w less few some
 
-  pub read_so : (bytes : List ℕ) → bytes ≡ flat_map word words → answer (wanted_of b rows turns) bytes ≡ Ok words
+  pub read_so : (bytes : List ℕ) → bytes ≡ flat_map word words → answer (wanted_of (boot_of b) rows.inputs turns) bytes ≡ Ok words
   read_so bytes spells =
       let same = some in
       read_back b rows turns steps count bytes sectors left (suc few) made words shown ups bits limit disk room at spells
@@ -210,14 +189,14 @@ module _ (law : ResumeLaws) (b : Booted) (rows : Rows) (turns steps count : ℕ)
         let named = named_so layer b rows count words k left up in
         let h =
         law.takes r.around r.system r.first few made budget words left shown (state_of k.machine left) k.turns k.current
-        (first_of law.steady r.system sectors) at named.ready named.sectors_are named.words_are in (
+        (unit_view b.unit) 1 (user_sectors r.system) (boots room sectors disk).starts (first_of law.steady r.system sectors) at named.ready named.sectors_are named.words_are in (
           subst (λ (a : Around). ReadyAt r.around r.system r.first Boot (suc few) made (cvm_at r p made) a)
               (around_is k up.resumed told left budget tells) h.0,
           h.1,
         )
 
     pub rest_there : {O D : Type 0} (text : sink_of.Ghosts O) (told : sectors_of.Ghosts D) (o o1 : O) (d d1 : D) (end : RunEnd) →
-        told.sectors d ≡ Some left → RestAt text told k b rows Boot count (turns - k.turns) (steps - k.machine.time) o d o1 d1 end →
+        told.sectors d ≡ Some left → RunPerformsAt text told all_calls end_by k b rows Boot count (turns - k.turns) (steps - k.machine.time) (o, d) (o1, d1) end →
         RunEndsBy text told (o, d) (o1, d1) (rest_script r p made) (due_end r p) end
     rest_there text told o o1 d d1 end tells rests =
         let h = stands (told.sectors d) (steps - k.machine.time) tells in
@@ -231,11 +210,11 @@ module _ (law : ResumeLaws) (b : Booted) (rows : Rows) (turns steps count : ℕ)
 -- what is said of a run that was taken up, of what is booted
 rest_at : {L O D : Type 0} (text : sink_of.Ghosts O) (told : sectors_of.Ghosts D) (layer : L) (b : Booted) (rows : Rows) (words : List ℕ) (k : Kept L)
     (more budget : ℕ) (o o1 : O) (d d1 : D) (end : RunEnd) → IsTakenUp layer b rows (told.size d) words k →
-    RestCalls text told k more budget (o, d) (o1, d1) end → RestAt text told k b rows Boot (told.size d) more budget o d o1 d1 end
+    RestCalls text told k more budget (o, d) (o1, d1) end → RunPerformsAt text told all_calls end_by k b rows Boot (told.size d) more budget (o, d) (o1, d1) end
 rest_at text told layer b rows words k more budget o o1 d d1 end up calls =
-    subst (λ (v : View). RestAt text told k b rows v (told.size d) more budget o d o1 d1 end) up.resumed.view
-    (subst (λ (q : Rows). RestAt text told k b q k.view (told.size d) more budget o d o1 d1 end) up.rows_are
-    (subst (λ (c : Booted). RestAt text told k c k.machine.rows k.view (told.size d) more budget o d o1 d1 end) up.boot_is calls.exact))
+    subst (λ (v : View). RunPerformsAt text told all_calls end_by k b rows v (told.size d) more budget (o, d) (o1, d1) end) up.resumed.view
+    (subst (λ (q : Rows). RunPerformsAt text told all_calls end_by k b q k.view (told.size d) more budget (o, d) (o1, d1) end) up.rows_are
+    (subst (λ (c : Booted). RunPerformsAt text told all_calls end_by k c k.machine.rows k.view (told.size d) more budget (o, d) (o1, d1) end) up.boot_is calls.exact))
 
 -- ANY FILE: at its first step a machine comes to no turns
 comes_to_none : (x : Environment) (z : State) → ComesTo x z 0 0
@@ -271,16 +250,16 @@ module _ (law : ResumeLaws) {L O D : Type 0} (text : sink_of.Ghosts O) (told : s
       RestPerformed text told b rows turns steps bytes (o, d) (o1, d1) (Ok end)
   rest_so k end (held, up, (is, spelled, can, enough)) calls = λ sectors left words p made room disk tells spells w one less.
       let back = read_so law b rows turns steps (told.size d) boots ups bits limit sectors left words p made room disk w one less bytes spells in
-      let same : held ≡ words = one_answer (answer (wanted_of b rows turns) bytes) held words is back in
+      let same : held ≡ words = one_answer (answer (wanted_of (boot_of b) rows.inputs turns) bytes) held words is back in
       let its = subst (λ (l : List ℕ). IsTakenUp layer b rows (told.size d) l k) same up in
       rest_there law b rows turns steps (told.size d) boots ups bits limit sectors left words p made room disk w one less layer k its text told o o1 d d1 end tells
       (rest_at text told layer b rows words k (turns - k.turns) (steps - k.machine.time) o o1 d d1 end its calls)
 
   untold_so : (k : Kept L) (end : RunEnd) → ResumesFile layer b rows turns (told.size d) bytes (Ok k) →
       RestUntold text told k (turns - k.turns) (steps - k.machine.time) (o, d) (o1, d1) end → (words : List ℕ) (left : List (List ℕ)) →
-      answer (wanted_of b rows turns) bytes ≡ Ok words → told.sectors d ≡ Some left → FileRuns text told b rows turns steps words left (o, d) (o1, d1) end
+      answer (wanted_of (boot_of b) rows.inputs turns) bytes ≡ Ok words → told.sectors d ≡ Some left → FileRuns text told b rows turns steps words left (o, d) (o1, d1) end
   untold_so k end (held, up, (is, spelled, can, enough)) untold words left answers tells =
-      let same : held ≡ words = one_answer (answer (wanted_of b rows turns) bytes) held words is answers in
+      let same : held ≡ words = one_answer (answer (wanted_of (boot_of b) rows.inputs turns) bytes) held words is answers in
       let its = subst (λ (l : List ℕ). IsTakenUp layer b rows (told.size d) l k) same up in
       file_runs text told layer b rows turns steps words left k o o1 d d1 end its tells untold
 

@@ -50,6 +50,7 @@ use Rattle.boot_run.specs.SavedFiles.{wanted_of}
 use Rattle.boot_run.specs.SavedRuns.{SavedAt, IsDisk, AreDisk}
 use Rattle.boot_run.specs.Saving.{saved_run, WholeStops}
 use Rattle.boot_run.specs.SaveRoom.{most_words}
+use Rattle.boot_run.proofs.SavedTakenUp.{complete_there}
 use Rattle.machine_save.specs.SaveCalls.{PutCalls, SomeLeft, SavedScript}
 use Rattle.machine_save.specs.SavedBoots.{AreTakenUp, CanBoot}
 
@@ -81,10 +82,10 @@ module _ (counts : TurnLaws) (x : Environment) (y : System) (s : State) (late he
   pub same_words : (words : List ℕ) (now : List (List ℕ)) (shown : List ℕ) → SavedAt x y s turns steps words now shown → words ≡ saved_words (run_at x y s Boot turns steps) p
   same_words words now shown w =
       let e : end_within x s turns steps ≡ w.at = counts.ends x s turns steps w.at w.end w.within in
-      let n : complete x s (end_within x s turns steps) ≡ turns = ap (complete x s) e ∙ w.stood.all in
+      let n : complete x s (end_within x s turns steps) ≡ turns = ap (complete x s) e ∙ complete_there x s turns w.at w.end w.on in
       let is : IsCvm y (lines_of_turn x s) turns (p.cvm (complete x s (end_within x s turns steps))) =
       subst (λ (k : ℕ). IsCvm y (lines_of_turn x s) k (p.cvm (complete x s (end_within x s turns steps)))) n (past.turns (complete x s (end_within x s turns steps)) (omega arith)) in
-      let c : p.cvm (complete x s (end_within x s turns steps)) ≡ w.past = m.same turns (p.cvm (complete x s (end_within x s turns steps))) w.past is w.stood.cvm in
+      let c : p.cvm (complete x s (end_within x s turns steps)) ≡ w.past = m.same turns (p.cvm (complete x s (end_within x s turns steps))) w.past is w.cvm in
       w.words_are ∙ sym (
       ap (λ (t : ℕ). saved y.input (run x s t) (complete x s (end_within x s turns steps)) (p.cvm (complete x s (end_within x s turns steps))).core.current) e
       ∙ ap (λ (k : ℕ). saved y.input (run x s w.at) k (p.cvm (complete x s (end_within x s turns steps))).core.current) n
@@ -94,7 +95,7 @@ module _ (counts : TurnLaws) (x : Environment) (y : System) (s : State) (late he
 pub has_room : {L : Type 0} (b : Booted) (rows : Rows) (count : ℕ) (old now : List (List ℕ)) (turns steps room : ℕ) (r : Kept L) (shown : List ℕ) → AreTakenUp b rows count → pages_needed b ≤ count → IsDisk count old → 1 ≤ turns → turns < 2 ^ 32 → steps < 2 ^ 64
     → room ≡ most_words (memory_frames (map_of (boot_of b))) → SavedAt (outside_of rows count) (system_of b rows) (loaded (system_of b rows) old) turns steps (saved_run r) now shown → (length (saved_run r) ≤ room) × (r.turns < 2 ^ 32)
 has_room b rows count old now turns steps room r shown up enough disk some bits limit same at =
-    let can : CanBeResumed (wanted_of b rows turns) (saved_run r) = (up old now turns steps turns (saved_run r) shown enough disk at some (omega arith) bits limit).0 in
+    let can : CanBeResumed (wanted_of (boot_of b) rows.inputs turns) (saved_run r) = (up old now turns steps turns (saved_run r) shown enough disk at some (omega arith) bits limit).0 in
     let whole : length (saved_run r) ≡ 1080 + slice_index (saved_run r) 55 + 1024 * memory_frames (map_of (boot_of b)) = can.saved.whole in
     let log : slice_index (saved_run r) 55 ≤ 4096 = can.saved.log in
     let told : r.turns ≡ turns = ap (λ (l : List ℕ). slice_index l 5) at.words_are in

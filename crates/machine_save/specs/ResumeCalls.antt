@@ -10,6 +10,7 @@ use Rattle.mips_table.specs.Machine.{State}
 use Rattle.mips_machine.specs.Steps.{outside_of}
 use Rattle.layer_contract.specs.declared.boot.Boot.{Boot as Booted}
 use Rattle.layer_contract.specs.Follows.{loaded}
+use Rattle.layer_contract.specs.Boots.{boot_of}
 use Rattle.saved_file.specs.Answer.{answer}
 use Rattle.saved_file.specs.declared.fault.SaveFault.TheVariants.{Memory}
 use Rattle.boot_turns.specs.declared.answers.View.TheVariants.{Boot}
@@ -58,7 +59,7 @@ pub record FileRuns {O D : Type 0} (text : sink_of.Ghosts O) (told : sectors_of.
 pub record ResumeScript {O D : Type 0} (text : sink_of.Ghosts O) (told : sectors_of.Ghosts D) (b : Booted) (rows : Rows) (turns steps : ℕ) (bytes : List ℕ)
     (old new : O × D) (result : Result RunEnd ResumeFault) : Type 0 where
   pub rest : RestPerformed text told b rows turns steps bytes old new result
-  pub untold : (words : List ℕ) (left : List (List ℕ)) → answer (wanted_of b rows turns) bytes ≡ Ok words → told.sectors old.1 ≡ Some left →
+  pub untold : (words : List ℕ) (left : List (List ℕ)) → answer (wanted_of (boot_of b) rows.inputs turns) bytes ≡ Ok words → told.sectors old.1 ≡ Some left →
       IfOk result (FileRuns text told b rows turns steps words left old new)
   pub some : IfOk result (λ end. SomeMade text told old new (of_end end))
   pub none : IfErr result (λ fault. new ≡ old)

@@ -6,6 +6,7 @@ use Rattle.schedule_file.specs.Rows.{Rows}
 use Rattle.mips_machine.specs.Steps.{outside_of}
 use Rattle.layer_contract.specs.declared.boot.Boot.{Boot as Booted}
 use Rattle.layer_contract.specs.Follows.{loaded}
+use Rattle.layer_contract.specs.Boots.{boot_of}
 use Rattle.saved_file.specs.Resumable.{CanBeResumed}
 use Rattle.saved_file.specs.Answer.{answer}
 use Rattle.boot_run.specs.Loading.{system_of}
@@ -23,4 +24,4 @@ abbrev pub AreTakenUp : Booted → Rows → (count : ℕ) → Type 0
 AreTakenUp b rows count = (old left : List (List ℕ)) (few spent turns : ℕ) (words shown : List ℕ) → pages_needed b ≤ count → IsDisk count old →
     SavedAt (outside_of rows count) (system_of b rows) (loaded (system_of b rows) old) few spent words left shown →
     1 ≤ few → few ≤ turns → turns < 2 ^ 32 → spent < 2 ^ 64 →
-    CanBeResumed (wanted_of b rows turns) words × (answer (wanted_of b rows turns) (flat_map word words) ≡ Ok words)
+    CanBeResumed (wanted_of (boot_of b) rows.inputs turns) words × (answer (wanted_of (boot_of b) rows.inputs turns) (flat_map word words) ≡ Ok words)

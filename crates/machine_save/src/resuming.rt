@@ -18,7 +18,7 @@ use boot_turns::machines_run;
 use cvm_outside::{Sectors, Sink};
 use layer_contract::{Boot, Layer};
 use layer_map::{memory_is_whole, parts_are_in_order};
-use mips_table::runs::{a_new_machine_is_steady, runs_are_taken_up, turns_are_counted};
+use mips_table::runs::{a_new_machine_is_steady, turns_are_counted};
 use saved_file::{SaveFault, Sizes, read};
 use std::alloc::AllocError;
 use thiserror::Error;
@@ -129,7 +129,6 @@ pub fn resume_run<L: Layer + Drop, D: Sectors, O: Sink>(
 {
     machines_run();
     turns_are_counted();
-    runs_are_taken_up();
     a_new_machine_is_steady();
     saved_runs_are_taken_up();
     boots_hold(&setup.layer, &setup.boot, &setup.schedule, disk);

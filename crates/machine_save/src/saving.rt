@@ -6,11 +6,12 @@ ghost use Rattle.cvm_model.specs.Cvm.{map_of};
 ghost use Rattle.layer_contract.specs.Boots.{BootFollows, boot_of};
 ghost use Rattle.boot_turns.specs.declared.answers.View.TheVariants.{Boot as OfBoot};
 ghost use Rattle.layer_contract.specs.Follows.{loaded};
-ghost use Rattle.boot_run.specs.LoadEnds.{LoadsRun, pages_needed};
+ghost use Rattle.boot_run.specs.LoadEnds.{pages_needed};
+ghost use Rattle.boot_run.specs.Loaded.{boot_load};
+ghost use Rattle.boot_run.specs.RunCalls.{LoadsRun};
 ghost use Rattle.boot_run.specs.LoadScript.{load_script};
 ghost use Rattle.boot_run.specs.LoadedPages.{user_pages};
 ghost use Rattle.boot_run.specs.Loading.{system_of};
-ghost use Rattle.boot_run.specs.Whole.{WholeStopped};
 ghost use Rattle.boot_run.specs.SaveRoom.{most_words};
 ghost use Rattle.machine_save.specs.SaveCalls.{PutCalls, RowCalls, SavedScript};
 
@@ -49,8 +50,7 @@ pub fn save_run<L: Layer + Drop, S: Shelf, D: Sectors, O: Sink>(
     requires follows { BootFollows (L.image setup.layer) (L.sizes setup.layer) (L.map setup.layer) setup.boot }
     requires some { 1 ≤ limits.turns }
     requires room { place.room.words ≡ most_words (memory_frames (map_of (boot_of setup.boot))) }
-    ensures loads { LoadsRun D.size D.sectors D.faults D.calls setup.boot OfBoot (pages_needed setup.boot) (WholeStopped setup.boot setup.schedule)
-        disk.old out.old disk.new out.new result }
+    ensures loads { LoadsRun D.Sectors setup.boot OfBoot (boot_load setup.boot setup.schedule) (out.old, disk.old) (out.new, disk.new) result }
     ensures script { SavedScript S.Shelf O.Sink D.Sectors (system_of setup.boot setup.schedule) setup.schedule
         (loaded (system_of setup.boot setup.schedule)) limits.turns limits.steps
         (load_script (user_pages (system_of setup.boot setup.schedule)) (pages_needed setup.boot)) place.entry.name.now

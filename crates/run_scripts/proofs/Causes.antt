@@ -22,8 +22,9 @@ use Rattle.boot_run.specs.Closing.{says}
 use Rattle.boot_run.specs.RunCalls.{end_by}
 use Rattle.run_scripts.specs.RunStatus.{IsRunStatus, status_of_end, power_status}
 use Rattle.run_scripts.specs.Ends.{WasDone, done, no_file, no_memory, GetsFor, all, up_to, IsNotGot, Wants, behind, within, wants, PlanAsks, SessionAsks, no_user, small, over_told, over_untold, SomeSaveAsks, as_boot, is_saved, session_load, answered}
+use Rattle.run_scripts.specs.Headline.{Untouched}
 use Rattle.run_scripts.specs.Served.{files_of, gets}
-use Rattle.run_scripts.specs.Causes.{FaultRose, NeedsMore, RunsOver, IsRun, IsWork, CausedBy, StatusesAreCaused, RefusedWith, WordsAreRefused}
+use Rattle.run_scripts.specs.Causes.{FaultRose, NeedsMore, RunsOver, IsRun, IsWork, CausedBy, StatusesAreCaused, RefusedWith, WordsAreRefused, with_text}
 use Rattle.run_scripts.specs.Shapes.{IsRefusal}
 use Rattle.run_scripts.proofs.ResumeScripts.{got_keeps}
 use Rattle.run_scripts.proofs.CommandOutcomes.{IsOfFile, Outcome, is_none, is_refused, is_booted, is_saved as saves_so, is_resumed, is_put, is_told, outcome}
@@ -32,7 +33,7 @@ use Rattle.run_scripts.proofs.CommandOutcomes.{IsOfFile, Outcome, is_none, is_re
 nothing_blames : (old new : Outside) (b : Option Who) → Performs [] old new b → b ≡ None
 nothing_blames old new b (all_done _) = refl
 
-nothing_changes : (old new : Outside) → Performs [] old new None → new ≡ old
+pub nothing_changes : (old new : Outside) → Performs [] old new None → new ≡ old
 nothing_changes old new (all_done _) = refl
 
 pub says_blames : (text : List ℕ) (old new : Outside) (b : Option Who) → Performs (says text) old new b → (b ≡ None) ⊎ (b ≡ Some TheSink)
@@ -41,6 +42,11 @@ says_blames text old new b (goes_on c rest _ mid _ _ d p) = inl (nothing_blames 
 
 pub says_printed : (text : List ℕ) (old new : Outside) → Performs (says text) old new None → new.sink.text ≡ append_known old.sink.text text
 says_printed text old new (goes_on c rest _ mid _ _ d p) = ap (λ (o : Outside). o.sink.text) (nothing_changes mid new p) ∙ d.0
+
+-- and leaves the rest of the outside
+pub says_keeps : (text : List ℕ) (old new : Outside) → Performs (says text) old new None → new ≡ record old { sink = with_text old.sink text }
+says_keeps text old new (goes_on c rest _ mid _ _ d p) =
+    nothing_changes mid new p ∙ subst (λ (told : Option (List ℕ)). mid ≡ record old { sink = record old.sink { text = told } }) d.0 d.1
 
 pub says_part : (text : List ℕ) (old new : Outside) → Performs (says text) old new (Some TheSink) → AppendsPart old.sink.text new.sink.text text
 says_part text old new p = by (Some TheSink) refl p
@@ -183,18 +189,18 @@ module _ (blame : ScriptsBlame) where
       same TheShelf = c
 
   -- what is left of the outside by the gets
-  pub mid_disk : (words : List (List ℕ)) (old new : Outside) (status : Status) (h : WasDone words old new status) → (h.mid.disk ≡ old.disk) × (h.mid.sink ≡ old.sink)
-  mid_disk words old new status h = by h.plan refl (outcome words old.shelf.file h.plan h.is_plan.comes)
+  pub mid_keeps : (words : List (List ℕ)) (old new : Outside) (status : Status) (h : WasDone words old new status) → Untouched old h.mid
+  mid_keeps words old new status h = by h.plan refl (outcome words old.shelf.file h.plan h.is_plan.comes)
     where
-      kept : (c : Command) → IsCommand words c → (h.mid.disk ≡ old.disk) × (h.mid.sink ≡ old.sink)
-      kept c is = let k = got_keeps _ _ _ _ _ old h.mid (h.gets.0 c is) h.files in (k.disk, k.sink)
+      kept : (c : Command) → IsCommand words c → Untouched old h.mid
+      kept c is = got_keeps _ _ _ _ _ old h.mid (h.gets.0 c is) h.files
 
-      none : h.plan ≡ bad_words → (h.mid.disk ≡ old.disk) × (h.mid.sink ≡ old.sink)
+      none : h.plan ≡ bad_words → Untouched old h.mid
       none e =
           let f : h.mid ≡ old = nothing_changes old h.mid (subst (λ (s : List Call). Performs s old h.mid None) (h.gets.1 e) h.files) in
-          (ap (λ (o : Outside). o.disk) f, ap (λ (o : Outside). o.sink) f)
+          record { sink = ap (λ (o : Outside). o.sink) f; disk = ap (λ (o : Outside). o.disk) f; files = λ n. ap (λ (o : Outside). o.shelf.file n) f }
 
-      by : (p : Plan) → h.plan ≡ p → Outcome words p → (h.mid.disk ≡ old.disk) × (h.mid.sink ≡ old.sink)
+      by : (p : Plan) → h.plan ≡ p → Outcome words p → Untouched old h.mid
       by p e (is_none n) = none e
       by p e (is_refused c is r f) = kept c is
       by p e (is_booted c is l session s rows) = kept c is
@@ -202,6 +208,9 @@ module _ (blame : ScriptsBlame) where
       by p e (is_resumed c is s rows machine) = kept (resume c) is
       by p e (is_put c is name bytes x) = kept c is
       by p e (is_told c is text) = kept c is
+
+  pub mid_disk : (words : List (List ℕ)) (old new : Outside) (status : Status) (h : WasDone words old new status) → (h.mid.disk ≡ old.disk) × (h.mid.sink ≡ old.sink)
+  mid_disk words old new status h = let k = mid_keeps words old new status h in (k.disk, k.sink)
 
   -- a row that is all that is done: it was printed, or the sink failed in it
   pub row_told : (words : List (List ℕ)) (old new : Outside) (status : Status) (h : WasDone words old new status) (due : Status) (row : List ℕ) → h.script ≡ says row → h.due ≡ due →

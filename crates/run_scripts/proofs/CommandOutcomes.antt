@@ -23,11 +23,12 @@ use Rattle.saved_file.specs.declared.fault.SaveFault.TheVariants.{SaveTooLarge a
 use Rattle.saved_file.specs.Answer.{answer as machine_of}
 use Rattle.system_files.specs.declared.fault.FileFault.{FileFault}
 use Rattle.boot_run.specs.SaveRoom.{FILE_ROOM}
+use Rattle.boot_run.specs.SavedFiles.{wanted_of}
 use Rattle.run_scripts.specs.declared.session.Session.{Session}
 use Rattle.run_scripts.specs.Check.{CheckTold, TellsObject, no_object as check_no_object, has_object as check_has_object, TellsOpened}
 use Rattle.run_scripts.specs.Command.{BootCommand, Save, Command, boot, trace, save, resume, compile_user, compile_kernel, compile_program, link, migrate, sample, check, IsCommand, IsNoCommand, IsSave, IsResume, boot_session, trace_session, save_session, sample_session}
 use Rattle.run_scripts.specs.Refusal.{Refusal, bad_text, bad_source, bad_program, bad_object, bad_file, unlinked, unaccepted, bad_schedule, bad_save, small_disk, no_such_user, too_long}
-use Rattle.run_scripts.specs.Plan.{Plan, bad_words, refuses, puts, boots, saves, resumes, prints as tells, Got, long, whole, GotAll, AfterFiles, BootPlan, accepted_plan, saved_plan, wanted_by, taken_plan, take_up_plan, most_bytes, AfterText, no_words, assembles, planned, AfterCode, AfterParts, unfit, answered, AfterUsers, AfterParams, AfterSystem, no_object, has_object, linked_plan, renewed_plan, AfterLinking, AfterSource, PartsPlan, told_plan, PlanComesTo, no_command, by_command}
+use Rattle.run_scripts.specs.Plan.{Plan, bad_words, refuses, puts, boots, saves, resumes, prints as tells, Got, long, whole, GotAll, AfterFiles, BootPlan, accepted_plan, saved_plan, taken_plan, take_up_plan, most_bytes, AfterText, no_words, assembles, planned, AfterCode, AfterParts, unfit, answered, AfterUsers, AfterParams, AfterSystem, no_object, has_object, linked_plan, renewed_plan, AfterLinking, AfterSource, PartsPlan, told_plan, PlanComesTo, no_command, by_command, boot_of_image}
 use Rattle.run_scripts.specs.Shapes.{Loads}
 use Rattle.run_scripts.specs.Served.{file_put}
 
@@ -100,7 +101,7 @@ module _ (words : List (List ℕ)) where
   of_save c is q (refuses_so r f) = is_refused (save c) is r f
 
   of_taken : (c : Save) → IsResume words c → (bytes : List ℕ) (q : Plan) → BootsOr (save_session c) q → Outcome words (take_up_plan bytes q)
-  of_taken c is bytes q (boots_so s rows) = by (machine_of (wanted_by s rows (save_session c).turns) bytes)
+  of_taken c is bytes q (boots_so s rows) = by (machine_of (wanted_of (boot_of_image s) rows.inputs (save_session c).turns) bytes)
     where
       by : (a : Result (List ℕ) SaveFault) → Outcome words (taken_plan (save_session c) s rows a)
       by (Ok machine) = is_resumed c is s rows machine

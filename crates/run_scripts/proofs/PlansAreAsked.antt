@@ -82,7 +82,7 @@ not_chosen : (b : Bool) (p q : Plan) → b ≡ false → (if b then p else q) �
 not_chosen true p q e = absurd cc
 not_chosen false p q e = refl
 
-short_plan : (session : Session) (s : ImageSystem) (rows : Rows) (name : List ℕ) → most_bytes s ≤ FILE_ROOM → saved_plan name (boots session s rows) ≡ saves session s rows name
+pub short_plan : (session : Session) (s : ImageSystem) (rows : Rows) (name : List ℕ) → most_bytes s ≤ FILE_ROOM → saved_plan name (boots session s rows) ≡ saves session s rows name
 short_plan session s rows name few =
     not_chosen (nat_lt FILE_ROOM (most_bytes s)) (refuses (bad_save (FileTooLarge (most_bytes s)))) (saves session s rows name) (not_below FILE_ROOM (most_bytes s) few)
 

@@ -2,15 +2,14 @@
 use Rattle.std.specs.Prelude.{Option, Some, None, Ok, codes, slice_index, if◌then◌else◌, ◌≢◌}
 use Rattle.std.specs.List.{flat_map}
 use Rattle.std.proofs.Common.{◌≡◌, ◌⊎◌, inl, inr, ℕ, zero, suc, ◌+◌, ◌*◌, ◌-◌, ◌≤◌, Bool, true, false, List, [], ◌∷◌, ◌++◌, length, refl, sym, ap, ap₂, ◌∙◌, subst, arith}
-use Rattle.std.proofs.lemmas.List.{length-append}
 use Rattle.cvm_outside.specs.Outside.{Outside}
 use Rattle.cvm_outside.specs.Script.{Who, Performs, sectors_after}
 use Rattle.cvm_words.specs.Bytes.{word}
+use Rattle.cvm_words.proofs.BytesOfWords.{length-words}
 use Rattle.schedule_file.specs.Rows.{Rows}
-use Rattle.mips_table.specs.Machine.{State}
-use Rattle.mips_table.specs.Turns.{IsTurnEnd, SumLaws, end_within, is_end}
+use Rattle.mips_table.specs.Turns.{IsTurnEnd, end_within, is_end}
 use Rattle.mips_machine.specs.Saved.{saved, SavedOnce}
-use Rattle.cvm_model.specs.Cvm.{Cvm, Status as CvmStatus, Running, Halted, Faulted, IsCvm, first_cvm, System}
+use Rattle.cvm_model.specs.Cvm.{Cvm, Status as CvmStatus, Running, Halted, Faulted, IsCvm, first_cvm}
 use Rattle.cvm_model.specs.Text.{rows_text}
 use Rattle.layer_contract.specs.Layer.{Rests}
 use Rattle.saved_file.specs.Answer.{answer as machine_of, AnswersAreResumable}
@@ -23,19 +22,21 @@ use Rattle.boot_turns.specs.TurnEnds.{RestsAfter, TurnIsOver}
 use Rattle.boot_run.specs.SavedRuns.{SavedAt}
 use Rattle.boot_run.specs.RunScript.{rest_script, saved_words, saved_bytes}
 use Rattle.boot_run.proofs.AbstractRuns.{past_of, turns_up_to}
+use Rattle.boot_run.proofs.SavedTakenUp.{goes_on}
 use Rattle.kernel_linker.specs.Accept.{ImageSystem}
 use Rattle.boot_run.specs.SaveRoom.{FILE_ROOM}
 use Rattle.boot_run.specs.RunCalls.{end_by}
+use Rattle.boot_run.specs.SavedFiles.{wanted_of}
 use Rattle.run_scripts.specs.declared.exit_status.Status.{Status}
 use Rattle.run_scripts.specs.declared.exit_status.Status.TheVariants.{Done, KernelFault}
 use Rattle.run_scripts.specs.Boot.{sectors_needed, SessionGoesOn}
 use Rattle.run_scripts.specs.CommandEnds.{HasSteps}
 use Rattle.run_scripts.specs.Command.{Save, IsSave, IsResume, save_session, Command, resume}
 use Rattle.run_scripts.specs.Ends.{WasDone, SavedRun, answered}
-use Rattle.run_scripts.specs.Plan.{saves, resumes, wanted_by, frames_of}
+use Rattle.run_scripts.specs.Plan.{saves, resumes, frames_of, boot_of_image}
 use Rattle.run_scripts.specs.Resumes.{IsHonestResume, IsSavedRun, IsBootBehind}
 use Rattle.run_scripts.specs.RunStatus.{run_status, status_of_end}
-use Rattle.run_scripts.specs.Saves.{SaveHolds, as_boot, is_saved, IsHonestSave, IsSavedAt}
+use Rattle.run_scripts.specs.Saves.{SaveHolds, as_boot, is_saved, IsHonestSave}
 use Rattle.run_scripts.specs.SessionRuns.{run_of}
 use Rattle.run_scripts.specs.Headline.{Asked, saved_so, resumed_so, EndIsOver, text_at, whole_text}
 use Rattle.run_scripts.proofs.PromisesByRuns.{ItGoesOn, IsSaved, IsUnsaved, SavedSo}
@@ -61,7 +62,6 @@ use Rattle.run_scripts.proofs.Resuming.{resumes_go_on}
 use Rattle.run_scripts.proofs.Saves.{saves_complete}
 use Rattle.cvm_outside.specs.Causes.{Rose}
 use Rattle.run_scripts.proofs.OneCommand.{one_command}
-use Rattle.mips_table.specs.Device.{Environment}
 
 -- THE PREMISES
 asked_save_of : (words : List (List ℕ)) (c : Save) (s : ImageSystem) (rows : Rows) (before : List (List ℕ)) (old new : Outside) (status : Status) → WasDone words old new status
@@ -121,33 +121,11 @@ module _ (r : Run) (p : Past) (is : IsPast r p) (over : EndIsOver r p) where
   halted never d = halts (has_ended r) refl (cvm_at r p n).status refl never d
 
 -- THE FILE of a machine isn't too long
-length_word : (n : ℕ) → length (word n) ≡ 4
-unfolding word
-length_word n = refl
-
-length_words : (words : List ℕ) → length (flat_map word words) ≡ 4 * length words
-length_words [] = refl
-length_words (w ∷ words) = omega (arith, length-append (word w) (flat_map word words), length_word w, length_words words)
-
 short_file : (words : List ℕ) (log frames : ℕ) → length words ≡ 1080 + log + 1024 * frames → log ≤ 4096 → 4 * (5176 + 1024 * frames) ≤ FILE_ROOM → length (flat_map word words) ≤ FILE_ROOM
-short_file words log frames whole few room = let four = length_words words in omega (arith, four, whole, few, room)
-
--- what is saved of a run, without how its machine rests
-of_saved : (x : Environment) (y : System) (s : State) (turns steps : ℕ) (words : List ℕ) (left : List (List ℕ)) (shown : List ℕ) → SavedAt x y s turns steps words left shown → IsSavedAt x y s turns steps words left shown
-of_saved x y s turns steps words left shown a = record {
-  at = a.at;
-  past = a.past;
-  end = a.end;
-  within = a.within;
-  on = a.on;
-  cvm = a.stood.cvm;
-  words_are = a.words_are;
-  left_is = a.left_is;
-  shown_is = a.shown_is;
-}
+short_file words log frames whole few room = let four = length-words words in omega (arith, four, whole, few, room)
 
 -- THE THEOREM OF SAVE
-module _ (law : LawsOfRuns) (sums : SumLaws) (read : AnswersAreResumable machine_of) (words : List (List ℕ)) (c : Save) (s : ImageSystem) (rows : Rows) (before : List (List ℕ)) (old new : Outside) (status : Status)
+module _ (law : LawsOfRuns) (read : AnswersAreResumable machine_of) (words : List (List ℕ)) (c : Save) (s : ImageSystem) (rows : Rows) (before : List (List ℕ)) (old new : Outside) (status : Status)
     (a : Asked words (saves (save_session c) s rows c.file) (save_session c) s rows before old) (asked : IsSave words c) (room : 4 * (5176 + 1024 * frames_of s) ≤ FILE_ROOM)
     (goes : SessionGoesOn (save_session c) old s rows before) (h : SavedSo c s rows (run_of (save_session c) s rows old.disk.size before) before old new status) where
   abbrev r : Run
@@ -179,12 +157,12 @@ module _ (law : LawsOfRuns) (sums : SumLaws) (read : AnswersAreResumable machine
     some : r.turns ≡ suc (r.turns - 1)
     some = let least = asked.some_turns in omega (arith, least)
 
-    its_file : IsSavedAt r.around r.system r.first r.turns r.steps (saved_words r h.past) (state_at r made).device.sectors (text_at r h.past made)
-    its_file = subst (λ (k : ℕ). IsSavedAt r.around r.system r.first k r.steps (saved_words r h.past) (state_at r made).device.sectors (text_at r h.past made)) (sym some)
-        (of_saved r.around r.system r.first (suc (r.turns - 1)) r.steps (saved_words r h.past) (state_at r made).device.sectors (text_at r h.past made) (saved_at sums r (known law words (saves (save_session c) s rows c.file) (save_session c) s rows before old a) h.past h.is_past w.left (r.turns - 1) some))
+    its_file : SavedAt r.around r.system r.first r.turns r.steps (saved_words r h.past) (state_at r made).device.sectors (text_at r h.past made)
+    its_file = subst (λ (k : ℕ). SavedAt r.around r.system r.first k r.steps (saved_words r h.past) (state_at r made).device.sectors (text_at r h.past made)) (sym some)
+        (saved_at r (known law words (saves (save_session c) s rows c.file) (save_session c) s rows before old a) h.past h.is_past w.left (r.turns - 1) some)
 
-    can : CanBeResumed (wanted_by s rows c.boot.turns) (saved_words r h.past)
-    can = read (wanted_by s rows c.boot.turns) (saved_bytes r h.past) (saved_words r h.past) (w.fits c.boot.turns (omega arith) asked.turns_fit)
+    can : CanBeResumed (wanted_of (boot_of_image s) rows.inputs c.boot.turns) (saved_words r h.past)
+    can = read (wanted_of (boot_of_image s) rows.inputs c.boot.turns) (saved_bytes r h.past) (saved_words r h.past) (w.fits c.boot.turns (omega arith) asked.turns_fit)
 
     was_left : SaveHolds c s rows before old new status
     was_left = is_saved (h.status_is ∙ ap status_of_end is_done) h.others (record {
@@ -217,7 +195,7 @@ pub saves_are_held : ScriptLaws → FileLaws → AnswersAreResumable machine_of 
 saves_are_held law files read words old new status ends c s rows before honest memory =
     let f = no_save_failed words c s rows before old new honest in
     let a = asked_save_of words c s rows before old new status (was_done law.blame words old new status ends f memory) honest in
-    holds law.runs files.machines.sums read words c s rows before old new status a honest.asked honest.short
+    holds law.runs read words c s rows before old new status a honest.asked honest.short
     (it_goes_on law.runs words _ (save_session c) s rows before old a) (saves_hold law files words c s rows before old new status honest.asked a f ends memory)
 
 pub saves_are_complete : ScriptLaws → SavesAreComplete
@@ -227,15 +205,9 @@ saves_are_complete law words old new status ends c s rows before honest memory h
     saves_complete law.blame law.runs words c s rows before old new status honest.asked a f ends memory (record { last = has.last; defined = has.defined; enough = has.enough })
 
 -- THE THEOREM OF RESUME
--- a machine that is on rests in a running state
-on_runs : (z : State) (st : CvmStatus) → z.off ≡ None → Rests st z → st ≡ Running
-on_runs z Running on h = refl
-on_runs z Halted on h = absurd (cc)
-on_runs z (Faulted f) on h = absurd (cc)
-
 module _ (law : ScriptLaws) (read : AnswersAreResumable machine_of) (goes : ItGoesOn) (words : List (List ℕ)) (c : Save) (s : ImageSystem) (rows : Rows) (machine : List ℕ) (left before : List (List ℕ)) (shown : List ℕ)
     (old : Outside) (is : IsResume words c) (a : Asked words (resumes (save_session c) s rows machine) (save_session c) s rows left old) (bytes : List ℕ)
-    (fits : machine_of (wanted_by s rows c.boot.turns) bytes ≡ Ok machine) (w : IsSavedRun c s rows machine left before shown old) where
+    (fits : machine_of (wanted_of (boot_of_image s) rows.inputs c.boot.turns) bytes ≡ Ok machine) (w : IsSavedRun c s rows machine left before shown old) where
   abbrev whole : Run
   whole = run_of (save_session c) s rows old.disk.size before
 
@@ -253,7 +225,7 @@ module _ (law : ScriptLaws) (read : AnswersAreResumable machine_of) (goes : ItGo
   turns_told = ap (λ (ws : List ℕ). slice_index ws 5) w.saved_at.words_are
 
   few : w.turns ≤ c.boot.turns
-  few = subst (λ (k : ℕ). k ≤ c.boot.turns) turns_told (read (wanted_by s rows c.boot.turns) bytes machine fits).turns
+  few = subst (λ (k : ℕ). k ≤ c.boot.turns) turns_told (read (wanted_of (boot_of_image s) rows.inputs c.boot.turns) bytes machine fits).turns
 
   there : end_within whole.around whole.first w.turns w.steps ≡ at
   there = law.runs.count.ends whole.around whole.first w.turns w.steps at w.saved_at.end w.saved_at.within
@@ -274,7 +246,7 @@ module _ (law : ScriptLaws) (read : AnswersAreResumable machine_of) (goes : ItGo
 
   rests_running : (k : ℕ) → RestsAfter whole.around whole.system whole.first k at here.0 → IsCvm whole.system (lines_met whole) k here.0 → here.0.status ≡ Running
   rests_running zero h c = sym (ap (λ (x : Cvm). x.status) (same_cvm (first_cvm whole.system) here.0 c.is))
-  rests_running (suc k) h c = on_runs (state_at whole at) here.0.status w.saved_at.on h.0
+  rests_running (suc k) h c = goes_on here.0.status (state_at whole at) w.saved_at.on h.0
 
   running : here.0.status ≡ Running
   running = rests_running (turns_at whole at) over.rests here.1

@@ -12,7 +12,7 @@ use Rattle.kernel_linker.specs.Accept.{ImageSystem}
 use Rattle.run_scripts.specs.declared.exit_status.Status.{Status}
 use Rattle.run_scripts.specs.declared.exit_status.Status.TheVariants.{Done, KernelFault, Memory}
 use Rattle.run_scripts.specs.declared.session.Session.{Session}
-use Rattle.run_scripts.specs.Plan.{Plan, boots, saves, resumes, wanted_by}
+use Rattle.run_scripts.specs.Plan.{Plan, boots, saves, resumes, boot_of_image}
 use Rattle.cvm_outside.specs.Outside.{Outside}
 use Rattle.boot_turns.specs.Runs.{Run, Past, IsPast, state_at, turns_at, steps_made, has_ended, lines_met, cvm_at}
 use Rattle.run_scripts.specs.Boot.{booted, sectors_needed, steps_before}
@@ -25,6 +25,7 @@ use Rattle.run_scripts.specs.Headline.{whole_text, Asked, EndIsOver, text_at}
 use Rattle.cvm_model.specs.Kernel.{MeaningLaws}
 use Rattle.cvm_outside.specs.Script.{spoken, sectors_after}
 use Rattle.boot_run.specs.RunScript.{run_script, saved_words, saved_row, saved_bytes}
+use Rattle.boot_run.specs.SavedFiles.{wanted_of}
 use Rattle.run_scripts.specs.Keys.{OfRuns}
 use Rattle.cvm_outside.specs.Told.{retold}
 use Rattle.saved_file.specs.Answer.{answer as machine_of}
@@ -115,7 +116,7 @@ pub record IsSaved (c : Save) (s : ImageSystem) (rows : Rows) (r : Run) (p : Pas
   pub boot : whole_text r p ≡ text_at r p (steps_made r) ++ (codes "stopped\n" ++ rest)
   pub text : new.sink.text ≡ append_known old.sink.text (text_at r p (steps_made r) ++ saved_row)
   pub file : new.shelf.file c.file ≡ retold (old.shelf.file c.file) (saved_bytes r p)
-  pub fits : (turns : ℕ) → c.boot.turns ≤ turns → turns < 2 ^ 32 → machine_of (wanted_by s rows turns) (saved_bytes r p) ≡ Ok (saved_words r p)
+  pub fits : (turns : ℕ) → c.boot.turns ≤ turns → turns < 2 ^ 32 → machine_of (wanted_of (boot_of_image s) rows.inputs turns) (saved_bytes r p) ≡ Ok (saved_words r p)
 
 -- or it wasn't: the text is the boot's, and no file changed
 pub record IsUnsaved (r : Run) (p : Past) (old new : Outside) : Type 0 where

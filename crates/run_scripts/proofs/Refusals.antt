@@ -9,22 +9,23 @@ use Rattle.run_scripts.specs.Command.{Command, IsCommand, save, resume}
 use Rattle.run_scripts.specs.Refusal.{Refusal, small_disk, no_such_user, too_long, refusal_status, refusal_text}
 use Rattle.run_scripts.specs.Plan.{Plan, bad_words, refuses, puts, boots, saves, resumes, prints as tells, PlanComesTo, AllTold}
 use Rattle.cvm_outside.specs.Causes.{Rose}
+use Rattle.cvm_outside.specs.Told.{retold}
 use Rattle.cvm_outside.specs.ScriptLaws.{ScriptsBlame, PrintedBy, GetsGiven}
 use Rattle.cvm_outside.specs.Outside.{Outside, Drive, Output}
-use Rattle.cvm_outside.specs.Script.{Call, Printed, Read, Wrote, Got, Stored, Who, TheSink, TheDisk, TheShelf, Performs, faults_of}
+use Rattle.cvm_outside.specs.Script.{Call, Printed, Read, Wrote, Got, Stored, Who, TheSink, TheDisk, TheShelf, Performs, goes_on, faults_of}
 use Rattle.cvm_outside.proofs.ScriptsFollow.{given}
 use Rattle.run_scripts.specs.Boot.{sectors_needed}
 use Rattle.boot_run.specs.Closing.{says}
 use Rattle.run_scripts.specs.RunStatus.{IsRunStatus}
 use Rattle.run_scripts.specs.Ends.{WasDone, done, no_file, no_memory, GetsFor, all, up_to, IsNotGot, behind, within, wants, PlanAsks, SessionAsks, no_user, small, over_told, over_untold, answered}
 use Rattle.run_scripts.specs.Served.{files_of, gets, NoneFailed, ServesWords, ShelfServes, AreSurelyGiven}
-use Rattle.run_scripts.specs.Headline.{IsOf, booted_so, saved_so, resumed_so}
+use Rattle.run_scripts.specs.Headline.{Untouched, IsOf, booted_so, saved_so, resumed_so}
 use Rattle.run_scripts.specs.Shapes.{gets_in, puts_in, NamedBy}
-use Rattle.run_scripts.specs.Causes.{FilesAreRefused, HasNoUser, MissingUsersAreRefused, SmallDisksAreRefused, LongFilesAreRefused, RefusedWith, RunsEnd, IsRun, WorkCompletes, IsWork}
+use Rattle.run_scripts.specs.Causes.{FilesAreRefused, HasNoUser, MissingUsersAreRefused, SmallDisksAreRefused, LongFilesAreRefused, RefusedWith, RunsEnd, IsRun, WorkCompletes, IsWork, WorkLeaves, with_text}
 use Rattle.run_scripts.proofs.ScriptCalls.{shape_of}
 use Rattle.run_scripts.proofs.OneCommand.{one_command}
 use Rattle.run_scripts.proofs.CommandOutcomes.{Outcome, is_none, is_refused, is_booted, is_saved, is_resumed, is_put, is_told, outcome}
-use Rattle.run_scripts.proofs.Causes.{Due, by_words, by_refusal, by_user, by_disk, by_work, by_run, run_due, says_printed, says_blames, row_told, of_done, of_no_file, mid_disk, done_due}
+use Rattle.run_scripts.proofs.Causes.{Due, by_words, by_refusal, by_user, by_disk, by_work, by_run, run_due, says_printed, says_keeps, nothing_changes, says_blames, row_told, of_done, of_no_file, mid_keeps, mid_disk, done_due}
 
 same_view : (u v : ℕ) → Trace u ≡ Trace v → u ≡ v
 same_view u v e = cc
@@ -50,6 +51,12 @@ puts_none (n ∷ m ∷ more) h = absurd h
 not_shelf : (b : Option Who) → (b ≡ None) ⊎ (b ≡ Some TheSink) → b ≡ Some TheShelf → ⊥
 not_shelf b (inl n) e = let z : None ≡ Some TheShelf = sym n ∙ e in cc
 not_shelf b (inr n) e = let z : Some TheSink ≡ Some TheShelf = sym n ∙ e in cc
+
+-- ONE PUT leaves its bytes in its file, and the sink
+stores : (name bytes : List ℕ) (old new : Outside) → Performs (Stored name bytes ∷ []) old new None → (new.shelf.file name ≡ retold (old.shelf.file name) bytes) × (new.sink ≡ old.sink)
+stores name bytes old new (goes_on c rest _ mid _ _ d p) =
+    let e : new ≡ mid = nothing_changes mid new p in
+    (ap (λ (o : Outside). o.shelf.file name) e ∙ d.1, ap (λ (o : Outside). o.sink) e ∙ ap (λ (o : Outside). o.sink) d.3)
 
 module _ (blame : ScriptsBlame) where
   -- nobody is blamed where no call fails
@@ -218,15 +225,31 @@ module _ (blame : ScriptsBlame) where
 
   pub work_completes : WorkCompletes
   work_completes words old new status p told comes work f (done _ h) m =
-      status_due words old new status h (none_blamed words old new status h f) ∙ by p work (plan_asks words old new status h p told comes)
+      let none : h.blamed ≡ None = none_blamed words old new status h f in
+      let w = by p work (plan_asks words old new status h p told comes) (subst (λ (b : Option Who). Performs h.script h.mid new b) none h.performs) in
+      (status_due words old new status h none ∙ w.0, w.1)
     where
-      by : (p : Plan) → IsWork p → PlanAsks p h.mid h.script h.due → h.due ≡ Done
-      by (puts name bytes) w a = a.1
-      by (tells text) w a = a.1
-      by bad_words w a = absurd w
-      by (refuses r) w a = absurd w
-      by (boots d s r) w a = absurd w
-      by (saves d s r n) w a = absurd w
-      by (resumes d s r x) w a = absurd w
+      k : Untouched old h.mid
+      k = mid_keeps blame words old new status h
+
+      made : (script : List Call) → h.script ≡ script → Performs h.script h.mid new None → Performs script h.mid new None
+      made script e a = subst (λ (s : List Call). Performs s h.mid new None) e a
+
+      told_so : (text : List ℕ) → new ≡ record h.mid { sink = with_text h.mid.sink text } → WorkLeaves (tells text) old new
+      told_so text e = (
+        ap (λ (o : Outside). o.sink) e ∙ ap (λ (o : Output). with_text o text) k.sink,
+        λ n. ap (λ (o : Outside). o.shelf.file n) e ∙ k.files n,
+      )
+
+      by : (p : Plan) → IsWork p → PlanAsks p h.mid h.script h.due → Performs h.script h.mid new None → (h.due ≡ Done) × WorkLeaves p old new
+      by (puts name bytes) w a q =
+          let z = stores name bytes h.mid new (made (Stored name bytes ∷ []) a.0 q) in
+          (a.1, (z.0 ∙ ap (λ (t : Option (List ℕ)). retold t bytes) (k.files name), z.1 ∙ k.sink))
+      by (tells text) w a q = (a.1, told_so text (says_keeps text h.mid new (made (says text) a.0 q)))
+      by bad_words w a q = absurd w
+      by (refuses r) w a q = absurd w
+      by (boots d s r) w a q = absurd w
+      by (saves d s r n) w a q = absurd w
+      by (resumes d s r x) w a q = absurd w
   work_completes words old new status p told comes work f (no_file c is g) m = absurd (no_file_failed words c old new is f.shelf g)
   work_completes words old new status p told comes work f (no_memory c is w) m = absurd (m refl)

@@ -17,7 +17,8 @@ use Rattle.boot_turns.specs.declared.answers.View.{View}
 use Rattle.boot_turns.specs.declared.answers.View.TheVariants.{Boot, Trace}
 use Rattle.cvm_outside.specs.Script.{Call, scripts}
 use Rattle.boot_turns.specs.Runs.{Run, Past, IsPast, state_at, turns_at, steps_made, has_ended, lines_met, cvm_at}
-use Rattle.boot_turns.specs.StepScript.{reads_of_page, page_of, steps_script}
+use Rattle.boot_report.specs.Resident.{page_reads}
+use Rattle.boot_turns.specs.StepScript.{page_of, steps_script}
 use Rattle.boot_run.specs.RunEnds.{SeesUser}
 use Rattle.boot_run.specs.Closing.{opening_script, page_report_script, cpu_text, user_report_script, boot_report, last_steps, trace_report, report_by, closing_script, says}
 use Rattle.boot_run.specs.RunScript.{rest_script, run_script}
@@ -52,8 +53,8 @@ module _ (m : Map) (s : State) (u : ℕ) (f : Flat) (whole : length f.words ≡ 
       ∙ memory-append 0 (take (1024 * p) f.words) (take 1024 (drop (1024 * p) f.words))
       ∙ ap (λ (n : ℕ). memory_text 0 (take (1024 * p) f.words) ++ memory_text n (take 1024 (drop (1024 * p) f.words))) many in
       let h = says_tells (memory_text (1024 * p) page) (old ++ memory_text 0 before) in
-      tells_both (reads_of_page m s (page_of m u p)) (says (memory_text (1024 * p) page)) (old ++ memory_text 0 before) (old ++ memory_text 0 before) (old ++ memory_text 0 (take (1024 * suc p) f.words))
-      (silent (reads_of_page m s (page_of m u p)) (old ++ memory_text 0 before) (quiet_reads m s (page_of m u p)))
+      tells_both (page_reads m s (page_of m u p)) (says (memory_text (1024 * p) page)) (old ++ memory_text 0 before) (old ++ memory_text 0 before) (old ++ memory_text 0 (take (1024 * suc p) f.words))
+      (silent (page_reads m s (page_of m u p)) (old ++ memory_text 0 before) (quiet_reads m s (page_of m u p)))
       (record { text = h.text; told = h.told; is = ap (λ (l : List ℕ). old ++ l) grown ∙ sym (append_assoc old (memory_text 0 before) (memory_text (1024 * p) page)) ∙ h.is })
 
   user_tells : (old : List ℕ) → Tells (user_report_script m s u f) old (old ++ user_text u f)

@@ -19,12 +19,13 @@ use Rattle.boot_turns.specs.StepScript.{rows_script, step_script, steps_script}
 use Rattle.boot_run.specs.Closing.{closing_script}
 use Rattle.boot_run.specs.SavedRuns.{IsDisk}
 use Rattle.boot_run.specs.RunScript.{rest_script}
+use Rattle.boot_run.specs.SavedFiles.{wanted_of}
 use Rattle.boot_run.proofs.AbstractRuns.{on_before}
 use Rattle.run_scripts.specs.declared.exit_status.Status.{Status}
 use Rattle.run_scripts.specs.declared.exit_status.Status.TheVariants.{StepLimit}
 use Rattle.run_scripts.specs.Command.{Save, IsResume, save_session, resume}
 use Rattle.run_scripts.specs.Ends.{SavedRun, answered}
-use Rattle.run_scripts.specs.Plan.{resumes, wanted_by}
+use Rattle.run_scripts.specs.Plan.{resumes, boot_of_image}
 use Rattle.run_scripts.specs.RunStatus.{run_status}
 use Rattle.run_scripts.specs.SessionRuns.{run_of}
 use Rattle.run_scripts.specs.Faults.{Stand, PrintedBehind, BeginsBehind, AfterRest, in_step, in_report, AfterResume, ResumeFaultsLeave}
@@ -139,7 +140,7 @@ module _ (law : ScriptLaws) (read : AnswersAreResumable machine_of) (words : Lis
   few_turns =
       let b = some_bytes (old.shelf.file d.file) (a.files (resume d) is).1.1.0 in
       subst (λ (n : ℕ). n ≤ d.boot.turns) (ap (λ (ws : List ℕ). slice_index ws 5) w.saved.words_are)
-      (read (wanted_by s rows d.boot.turns) b.0 machine (machine_is_read words old.shelf.file d s rows machine b.0 is a.is_plan b.1)).turns
+      (read (wanted_of (boot_of_image s) rows.inputs d.boot.turns) b.0 machine (machine_is_read words old.shelf.file d s rows machine b.0 is a.is_plan b.1)).turns
 
   there : end_within r.around r.first (turns_at r made) made ≡ made
   there = law.runs.count.ends r.around r.first (turns_at r made) made made w.saved.first (omega arith)

@@ -26,7 +26,8 @@ use Rattle.run_scripts.proofs.PerformedScripts.{leaves_sectors}
 use Rattle.run_scripts.proofs.Refusals.{none_blamed, status_due, plan_asks, no_file_failed}
 use Rattle.run_scripts.proofs.Saves.{told_asks}
 use Rattle.run_scripts.proofs.Shapes.{others_stay}
-use Rattle.run_scripts.proofs.ScriptsStore.{stored-append, quiet_stores, stored_scripts, step_stores}
+use Rattle.boot_run.proofs.LoadStores.{stored-append}
+use Rattle.run_scripts.proofs.ScriptsStore.{quiet_stores, stored_scripts, step_stores}
 
 -- ONE RUN goes on from the words
 one_run : SavedOnce → (session : Session) (s : ImageSystem) (rows : Rows) (words : List ℕ) (size : ℕ) (sectors : List (List ℕ)) (r q : Run) → GoesOn session s rows words size sectors r →

@@ -1,5 +1,5 @@
 -- What is printed of a run, and which sectors stand, where a call of its script fails.
-use Rattle.std.specs.Prelude.{Option, Some, None, IfSome, is_some, min, codes, not, ◌||◌, ◌==◌, ◌/◌, ◌%◌, if◌then◌else◌}
+use Rattle.std.specs.Prelude.{Option, Some, None, IfSome, is_some, min, codes, not, ◌||◌, ◌==◌, ◌/◌, if◌then◌else◌}
 use Rattle.std.proofs.Common.{◌≡◌, ◌⊎◌, inl, inr, ⊎_elim, ℕ, zero, suc, ◌+◌, ◌-◌, ◌<◌, ◌≤◌, Bool, true, false, List, [], ◌∷◌, ◌++◌, length, take, drop, refl, sym, ap, ◌∙◌, subst, arith, append-nil, append_assoc, eq-eqb, ne_eqb}
 use Rattle.std.proofs.lemmas.Bool.{cases_lt}
 use Rattle.std.specs.Option.{option_map}
@@ -22,13 +22,13 @@ use Rattle.mips_machine.specs.Steps.{before_count, script_of_step, due_if}
 use Rattle.sector_disk.specs.Ports.{transfer_script}
 use Rattle.cvm_model.specs.Cvm.{System, Cvm, Status, Running, Halted, Faulted, map_of}
 use Rattle.cvm_model.specs.Kernel.{JournalEntry, Put, parts_of_value}
-use Rattle.cvm_model.specs.Paged.{paged_of}
 use Rattle.cvm_model.specs.Primitives.{user_of}
 use Rattle.cvm_model.specs.Text.{rows_text, start_row, journal_rows, open_journal_rows, end_text, boot_text, globals_text, log_text, fault_name}
 use Rattle.boot_turns.specs.declared.answers.View.{View}
 use Rattle.boot_turns.specs.declared.answers.View.TheVariants.{Boot, Trace}
 use Rattle.boot_turns.specs.Runs.{Run, Past, IsPast, state_at, turns_at, steps_made, has_ended, cvm_at}
-use Rattle.boot_turns.specs.StepScript.{prints, reads_of_page, page_of, copies_at, entry_reads, row_behind, entry_script, rows_script, step_script, steps_script}
+use Rattle.boot_report.specs.Resident.{is_resident, page_reads}
+use Rattle.boot_turns.specs.StepScript.{prints, page_of, copies_at, entry_reads, row_behind, entry_script, rows_script, step_script, steps_script}
 use Rattle.boot_turns.specs.TurnEnds.{first_user_machine}
 use Rattle.boot_run.specs.RunEnds.{SeesUser}
 use Rattle.boot_run.specs.Closing.{opening_script, user_report_script, boot_report, last_steps, trace_report, report_by, closing_script, says}
@@ -42,7 +42,8 @@ use Rattle.boot_run.proofs.AbstractRuns.{on_before, turns_up_to}
 use Rattle.run_scripts.proofs.RowsAlongRuns.{Known, journal_grows}
 use Rattle.run_scripts.proofs.Reports.{closing_tells, behind_last}
 use Rattle.run_scripts.proofs.StoredRuns.{quiet, steps_leave}
-use Rattle.run_scripts.proofs.ScriptsStore.{quiet_stores, step_stores, stored-append}
+use Rattle.boot_run.proofs.LoadStores.{stored-append}
+use Rattle.run_scripts.proofs.ScriptsStore.{quiet_stores, step_stores}
 use Rattle.run_scripts.proofs.ScriptsTell.{Tells, tells_both, tells_scripts, says_tells, silent, quiet_due, entry_tells, step_tells, steps_tell, opening_tells}
 
 -- WHAT STANDS so far: this text was printed, and these are the sectors
@@ -103,8 +104,8 @@ disk_due x s = by s.off
     by None = disk_transfer (before_count x s).pending (before_count x s).buffer
     by (Some word) = tt
 
-disk_page : (m : Map) (s : State) (q : ℕ) → AllOf TheDisk (reads_of_page m s q)
-disk_page m s q = by ((paged_of m s).entry q / 2048 % 2 == 1)
+disk_page : (m : Map) (s : State) (q : ℕ) → AllOf TheDisk (page_reads m s q)
+disk_page m s q = by (is_resident m s q)
   where
     by : (b : Bool) → AllOf TheDisk (if b then [] else Read q ∷ [])
     by true = tt

@@ -37,7 +37,8 @@ use Rattle.run_scripts.proofs.SavedMachines.{FileLaws, file_fits}
 use Rattle.run_scripts.proofs.Saves.{told_asks}
 use Rattle.run_scripts.proofs.Shapes.{others_stay}
 use Rattle.run_scripts.proofs.StoredRuns.{steps_leave}
-use Rattle.run_scripts.proofs.ScriptsStore.{stored-append, quiet_stores}
+use Rattle.boot_run.proofs.LoadStores.{stored-append}
+use Rattle.run_scripts.proofs.ScriptsStore.{quiet_stores}
 use Rattle.run_scripts.proofs.ScriptsTell.{Tells, tells_both, quiet_load, steps_tell, opening_tells}
 
 -- WHETHER A RUN IS LEFT

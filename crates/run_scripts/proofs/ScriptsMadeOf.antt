@@ -1,6 +1,6 @@
 -- What the scripts of runs are made of: prints, reads and writes of sectors, so that what is so of these, and of one script behind another, is so of them.
-use Rattle.std.specs.Prelude.{Option, Some, None, ◌==◌, if◌then◌else◌}
-use Rattle.std.proofs.Common.{ℕ, zero, suc, ◌+◌, ◌-◌, ◌/◌, ◌%◌, Bool, true, false, List, [], ◌∷◌, ◌++◌, length, drop, sym, subst}
+use Rattle.std.specs.Prelude.{Option, Some, None, if◌then◌else◌}
+use Rattle.std.proofs.Common.{ℕ, zero, suc, ◌+◌, ◌-◌, ◌/◌, Bool, true, false, List, [], ◌∷◌, ◌++◌, length, drop, sym, subst}
 use Rattle.layer_map.specs.Map.{Map}
 use Rattle.mips_table.specs.Device.{Environment, Pending, Idle, Reading, Writing}
 use Rattle.mips_table.specs.Flat.{Flat}
@@ -9,14 +9,14 @@ use Rattle.mips_machine.specs.Steps.{before_count, script_of_step, due_if}
 use Rattle.page_model.specs.Paging.{Pages}
 use Rattle.cvm_model.specs.Cvm.{System, Cvm, Status, Running, Halted, Faulted, map_of}
 use Rattle.cvm_model.specs.Kernel.{JournalEntry, Put}
-use Rattle.cvm_model.specs.Paged.{paged_of}
 use Rattle.cvm_model.specs.Primitives.{pages_of, user_of}
 use Rattle.boot_turns.specs.declared.answers.View.{View}
 use Rattle.boot_turns.specs.declared.answers.View.TheVariants.{Boot, Trace}
 use Rattle.cvm_outside.specs.Script.{Call, Printed, Read, Wrote, scripts}
 use Rattle.cvm_outside.proofs.RowsPut.{scripts-none, scripts-suc}
 use Rattle.boot_turns.specs.Runs.{Run, Past, state_at, steps_made, has_ended, cvm_at}
-use Rattle.boot_turns.specs.StepScript.{prints, reads_of_page, page_of, copies_at, entry_reads, row_behind, entry_script, rows_script, step_script, steps_script}
+use Rattle.boot_report.specs.Resident.{is_resident, page_reads}
+use Rattle.boot_turns.specs.StepScript.{prints, page_of, copies_at, entry_reads, row_behind, entry_script, rows_script, step_script, steps_script}
 use Rattle.boot_run.specs.LoadScript.{load_script, page_write_script as load_page}
 use Rattle.boot_run.specs.Loading.{words_of_page}
 use Rattle.sector_disk.specs.Ports.{transfer_script}
@@ -44,8 +44,8 @@ module _ (P : List Call → Type 0) (c : Closed P) where
   of_prints [] = c.none
   of_prints (b ∷ x) = c.print (Some (b ∷ x))
 
-  of_reads : (m : Map) (s : State) (q : ℕ) → P (reads_of_page m s q)
-  of_reads m s q = by ((paged_of m s).entry q / 2048 % 2 == 1)
+  of_reads : (m : Map) (s : State) (q : ℕ) → P (page_reads m s q)
+  of_reads m s q = by (is_resident m s q)
     where
       by : (b : Bool) → P (if b then [] else Read q ∷ [])
       by true = c.none
@@ -67,7 +67,7 @@ module _ (P : List Call → Type 0) (c : Closed P) where
 
   of_user : (m : Map) (s : State) (u : ℕ) (f : Flat) → P (user_report_script m s u f)
   of_user m s u f = c.both (says (cpu_text u f)) (scripts (page_report_script m s u f) (pages_of f)) (c.print _)
-      (of_scripts (page_report_script m s u f) (pages_of f) (λ p. c.both (reads_of_page m s (page_of m u p)) _ (of_reads m s (page_of m u p)) (c.print _)))
+      (of_scripts (page_report_script m s u f) (pages_of f) (λ p. c.both (page_reads m s (page_of m u p)) _ (of_reads m s (page_of m u p)) (c.print _)))
 
   of_boot : (y : System) (s : State) (at : Cvm) (st : Status) → P (boot_report y s at st)
   of_boot y s at (Faulted f) = c.none

@@ -1,6 +1,6 @@
 -- What scripts store: the transfer of each step leaves the sectors of the next state, and nothing else writes one.
 use Rattle.std.specs.Prelude.{Option, None, slice_set, nat_lt, not, ◌==◌, if◌then◌else◌}
-use Rattle.std.proofs.Common.{◌≡◌, ℕ, zero, suc, ◌+◌, ◌-◌, ◌<◌, Bool, true, false, List, [], ◌∷◌, ◌++◌, refl, sym, ap, ◌∙◌, subst, arith}
+use Rattle.std.proofs.Common.{◌≡◌, ℕ, zero, suc, ◌+◌, ◌-◌, ◌<◌, Bool, true, false, List, [], ◌∷◌, refl, sym, ap, ◌∙◌, subst, arith}
 use Rattle.mips_table.specs.Device.{Device, Environment, Pending, Idle, Reading, Writing, BUFFER, COMMAND, SECTOR, is_busy, is_buffer, command_begun, port_write, settled}
 use Rattle.mips_table.specs.Machine.{State, come_to, coming, latched, if_on, step}
 use Rattle.mips_machine.specs.Steps.{before_count, script_of_step, due_if}
@@ -8,17 +8,10 @@ use Rattle.cvm_outside.specs.Script.{Call, Printed, Read, Wrote, Got, Stored, Wr
 use Rattle.cvm_outside.proofs.RowsPut.{scripts-none, scripts-suc, quiet_both}
 use Rattle.boot_turns.specs.Runs.{Run, state_at}
 use Rattle.sector_disk.specs.Ports.{transfer_script}
+use Rattle.boot_run.proofs.LoadStores.{stored-append}
 use Rattle.run_scripts.proofs.LastingProperties.{Stays, coming_stays}
 
--- SCRIPTS one after another
-pub stored-append : (a b : List Call) (ss : List (List ℕ)) → sectors_after (a ++ b) ss ≡ sectors_after b (sectors_after a ss)
-stored-append [] b ss = refl
-stored-append (Printed t ∷ a) b ss = stored-append a b ss
-stored-append (Read q ∷ a) b ss = stored-append a b ss
-stored-append (Wrote q ws ∷ a) b ss = stored-append a b (slice_set ss q ws)
-stored-append (Got n ∷ a) b ss = stored-append a b ss
-stored-append (Stored n bs ∷ a) b ss = stored-append a b ss
-
+-- SCRIPTS that write no sector
 pub quiet_stores : (a : List Call) → WritesNoSector a → (ss : List (List ℕ)) → sectors_after a ss ≡ ss
 quiet_stores [] q ss = refl
 quiet_stores (Printed t ∷ a) q ss = quiet_stores a q ss

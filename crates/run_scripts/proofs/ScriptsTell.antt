@@ -1,6 +1,6 @@
 -- What scripts tell: the whole text of a run.
-use Rattle.std.specs.Prelude.{Option, Some, None, ◌==◌, if◌then◌else◌}
-use Rattle.std.proofs.Common.{◌≡◌, ℕ, zero, suc, ◌+◌, ◌-◌, ◌/◌, ◌%◌, ◌<◌, ◌≤◌, Bool, true, false, List, [], ◌∷◌, ◌++◌, length, take, drop, get_or, refl, sym, ap, ◌∙◌, subst, arith, append-nil, append_assoc}
+use Rattle.std.specs.Prelude.{Option, Some, None, if◌then◌else◌}
+use Rattle.std.proofs.Common.{◌≡◌, ℕ, zero, suc, ◌+◌, ◌-◌, ◌/◌, ◌<◌, ◌≤◌, Bool, true, false, List, [], ◌∷◌, ◌++◌, length, take, drop, get_or, refl, sym, ap, ◌∙◌, subst, arith, append-nil, append_assoc}
 use Rattle.std.proofs.lemmas.List.{take_all, take_more, length-append}
 use Rattle.std.proofs.Math.Seq.{take-append_seam, drop-append_seam}
 use Rattle.layer_map.specs.Map.{Map}
@@ -9,7 +9,6 @@ use Rattle.mips_table.specs.Machine.{State}
 use Rattle.mips_machine.specs.Steps.{before_count, script_of_step, due_if}
 use Rattle.cvm_model.specs.Cvm.{Cvm, map_of}
 use Rattle.cvm_model.specs.Kernel.{JournalEntry, Put}
-use Rattle.cvm_model.specs.Paged.{paged_of}
 use Rattle.cvm_model.specs.Text.{row_text, rows_text, start_row, open_journal_rows}
 use Rattle.cvm_model.specs.declared.row.Row.{Row}
 use Rattle.boot_turns.specs.declared.answers.View.{View}
@@ -19,7 +18,8 @@ use Rattle.cvm_outside.specs.Script.{Call, Read, Wrote, scripts, spoken}
 use Rattle.cvm_outside.proofs.RowsPut.{scripts-none, scripts-suc}
 use Rattle.cvm_outside.proofs.ScriptsTell.{speaks_both}
 use Rattle.boot_turns.specs.Runs.{Run, Past, IsPast, state_at, steps_made, cvm_at}
-use Rattle.boot_turns.specs.StepScript.{prints, reads_of_page, page_of, copies_at, entry_reads, row_behind, entry_script, rows_script, step_script, steps_script}
+use Rattle.boot_report.specs.Resident.{is_resident, page_reads}
+use Rattle.boot_turns.specs.StepScript.{prints, page_of, copies_at, entry_reads, row_behind, entry_script, rows_script, step_script, steps_script}
 use Rattle.boot_run.specs.LoadScript.{load_script, page_write_script as load_page}
 use Rattle.boot_run.specs.Loading.{words_of_page}
 use Rattle.sector_disk.specs.Ports.{transfer_script}
@@ -77,8 +77,8 @@ quiet_due x s = by s.off
     by None = quiet_transfer (before_count x s).pending (before_count x s).buffer
     by (Some word) = refl
 
-pub quiet_reads : (m : Map) (s : State) (q : ℕ) → spoken (reads_of_page m s q) ≡ Some []
-quiet_reads m s q = by ((paged_of m s).entry q / 2048 % 2 == 1)
+pub quiet_reads : (m : Map) (s : State) (q : ℕ) → spoken (page_reads m s q) ≡ Some []
+quiet_reads m s q = by (is_resident m s q)
   where
     by : (b : Bool) → spoken (if b then [] else Read q ∷ []) ≡ Some []
     by true = refl

@@ -1,7 +1,6 @@
 -- Which calls a command makes.
 use Rattle.std.specs.Prelude.{Option, None}
-use Rattle.std.proofs.Common.{◌≡◌, ◌≢◌, ◌⊎◌, inl, inr, ℕ, ◌+◌, suc, List, [], ◌∷◌, ◌++◌, length, refl, ap, ◌∙◌, subst, arith, append_assoc, append-nil}
-use Rattle.cvm_outside.specs.Told.{TOO_LONG}
+use Rattle.std.proofs.Common.{◌≡◌, ◌≢◌, ℕ, ◌+◌, suc, List, [], ◌∷◌, ◌++◌, length, refl, ap, ◌∙◌, subst, arith}
 use Rattle.run_scripts.specs.Command.{Command, IsCommand, save, resume}
 use Rattle.run_scripts.specs.Refusal.{too_long}
 use Rattle.run_scripts.specs.Plan.{Plan, bad_words, refuses}
@@ -12,7 +11,7 @@ use Rattle.cvm_outside.specs.ScriptLaws.{MadeBy, ScriptsBlame, ScriptsCountFiles
 use Rattle.cvm_outside.proofs.ScriptsFollow.{both}
 use Rattle.run_scripts.specs.Ends.{done, no_file, no_memory, GetsFor, all, up_to, IsNotGot, Wants}
 use Rattle.run_scripts.specs.Served.{files_of, gets, file_put}
-use Rattle.run_scripts.specs.Shapes.{PlansHaveShape, OthersStay, NothingIsLoaded, RefusalsKeepTheDisk, GetsComeFirst, ShelfIsCalled, EndsLong, were_got, ungot, wanting, gets_in, puts_in}
+use Rattle.run_scripts.specs.Shapes.{PlansHaveShape, OthersStay, NothingIsLoaded, RefusalsKeepTheDisk, GetsComeFirst, ShelfIsCalled, were_got, ungot, wanting, gets_in, puts_in}
 use Rattle.run_scripts.proofs.ScriptCalls.{shape_of, files_stay, disk_stays, quiet_plan}
 use Rattle.run_scripts.proofs.Causes.{mid_disk, refusal_quiet}
 use Rattle.run_scripts.proofs.ResumeScripts.{got_keeps}
@@ -36,24 +35,6 @@ gets_files : (names : List (List ℕ)) (old new : Outside) (b : Option Who) → 
 gets_files [] old new b (all_done _) n = refl
 gets_files (m ∷ names) old new b (breaks c rest _ _ f) n = f.0 n
 gets_files (m ∷ names) old new b (goes_on c rest _ mid _ _ d p) n = gets_files names mid new b p n ∙ d.0 n
-
--- what words got, as gets of some names
-record Names (file : List ℕ → Option (List ℕ)) (names : List (List ℕ)) (taken : ℕ) (got : List Call) : Type 0 where
-  pub made : List (List ℕ)
-  pub rest : List (List ℕ)
-  pub all : made ++ rest ≡ names
-  pub got_is : got ≡ gets made
-  pub which : ((rest ≡ []) × (made ≢ [] → taken ≢ TOO_LONG)) ⊎ EndsLong file made taken
-
-got_names : (file : List ℕ → Option (List ℕ)) (names : List (List ℕ)) (taken : ℕ) (p : Plan) (got : List Call) → GetsFor file names taken p got → Names file names taken got
-got_names file names taken p got (all _ n t) = record { made = names; rest = []; all = append-nil names; got_is = refl; which = inl (refl, t) }
-got_names file names taken p got (up_to before after name e s l t) = record {
-  made = before ++ name ∷ [];
-  rest = after;
-  all = append_assoc before (name ∷ []) after ∙ e;
-  got_is = refl;
-  which = inr (record { short = before; long = name; are = refl; are_short = s; is_long = l; taken_is = t });
-}
 
 pub others_stay : OthersStay
 others_stay words c old new status is (done _ h) n ne =
@@ -96,9 +77,8 @@ refusals_keep_the_disk blame words old new status (no_memory d k w) came = (want
 
 pub gets_come_first : GetsComeFirst
 gets_come_first words c old new status is (done _ h) =
-    let w = got_names _ _ new.shelf.taken _ _ (h.gets.0 c is) in
     let s = shape_of words c h.plan h.mid h.script h.due is (outcome words old.shelf.file h.plan h.is_plan.comes) h.asks in
-    were_got status h.due w.made w.rest h.mid h.script h.blamed w.all w.which (subst (λ (s : List Call). Performs s old h.mid None) w.got_is h.files) (record { gets = s.gets; puts = s.puts }) h.performs h.status_is
+    were_got status h.due h.plan h.mid h.got h.script h.blamed (h.gets.0 c is) h.files (record { gets = s.gets; puts = s.puts }) h.performs h.status_is
 gets_come_first words c old new status is (no_file d k g) =
     let e : files_of d ≡ files_of c = ap files_of (one_command words d c k is) in
     ungot (subst (λ (names : List (List ℕ)). IsNotGot names old new) e g)

@@ -1,105 +1,15 @@
 -- The load alone makes the sectors of the start.
-use Rattle.std.specs.Prelude.{nat_lt, slice_index, slice_set, not, ◌&&◌, if◌then◌else◌}
-use Rattle.std.specs.List.{range_with_len}
-use Rattle.std.proofs.Common.{◌≡◌, ℕ, zero, suc, ◌+◌, ◌-◌, ◌*◌, ◌/◌, ◌<◌, ◌≤◌, Bool, true, false, cond, List, [], ◌∷◌, map, length, refl, sym, ap, ap₂, ◌∙◌, ⊎_elim, arith, lt-ltb, le-ltb}
-use Rattle.std.proofs.Math.Nat.{le-div_iff_mul-le}
-use Rattle.std.proofs.lemmas.Bool.{cases_lt, cond-true, cond-false}
-use Rattle.mips_table.specs.Device.{sector_of}
-use Rattle.page_model.specs.Paging.{Pages}
+use Rattle.std.proofs.Common.{◌≡◌, ℕ, ◌≤◌, List, length}
 use Rattle.cvm_model.specs.Cvm.{System}
-use Rattle.layer_contract.specs.Follows.{loaded, loaded_sector}
-use Rattle.layer_contract.specs.Starts.{user_sectors}
-use Rattle.boot_turns.specs.Rom.{own_rom, page_of, rom_loaded, rom_sector, rom_sectors}
-use Rattle.boot_run.specs.Loading.{words_of_page, with_page, pages_written}
-use Rattle.boot_run.specs.LoadedPages.{disk_pages, first_pages, rom_pages, user_pages}
-use Rattle.boot_run.proofs.PageLemmas.{page_or, written_is}
-use Rattle.boot_run.proofs.UserPages.{dead_past}
+use Rattle.cvm_outside.specs.Script.{sectors_after}
+use Rattle.boot_turns.specs.Rom.{own_rom}
+use Rattle.boot_run.specs.LoadScript.{load_script}
+use Rattle.boot_run.proofs.LoadStores.{loaded_are, rom_are}
 use Rattle.run_scripts.specs.declared.session.StartPoint.{StartPoint}
 use Rattle.run_scripts.specs.declared.session.StartPoint.TheVariants.{Loaded, Rom}
-use Rattle.cvm_outside.specs.Script.{Call, Wrote, scripts, sectors_after}
-use Rattle.cvm_outside.proofs.RowsPut.{scripts-none, scripts-suc}
 use Rattle.run_scripts.specs.Boot.{held_of, start_of}
-use Rattle.boot_run.specs.LoadScript.{load_script, page_write_script}
 use Rattle.run_scripts.specs.SessionRuns.{pages_loaded}
-use Rattle.run_scripts.proofs.ScriptsStore.{stored-append}
 
-page_stores : (p : Pages) (q : ℕ) (ss : List (List ℕ)) → sectors_after (page_write_script p q) ss ≡ with_page p ss q
-page_stores p q ss = by (p.live q)
-  where
-    by : (b : Bool) → sectors_after (if b then Wrote q (words_of_page p q) ∷ [] else []) ss ≡ (if b then slice_set ss q (words_of_page p q) else ss)
-    by true = refl
-    by false = refl
-
-load_stores : (p : Pages) (n : ℕ) (ss : List (List ℕ)) → sectors_after (load_script p n) ss ≡ pages_written p n ss
-load_stores p zero ss = ap (λ (l : List Call). sectors_after l ss) (scripts-none (page_write_script p))
-load_stores p (suc n) ss =
-    ap (λ (l : List Call). sectors_after l ss) (scripts-suc (page_write_script p) n) ∙ stored-append (scripts (page_write_script p) n) (page_write_script p n) ss
-    ∙ ap (sectors_after (page_write_script p n)) (load_stores p n ss) ∙ page_stores p n (pages_written p n ss)
-
-module _ (y : System) (some : 1 ≤ y.boot.params.pages) where
-  abbrev per : ℕ
-  per = y.boot.params.pages
-
-  abbrev users : List (List ℕ)
-  users = y.boot.users
-
-  abbrev first : ℕ
-  first = length users * per
-
-  abbrev many : ℕ
-  many = rom_sectors y
-
-  -- no number behind the users' pages is one of a user
-  dead : (q : ℕ) → first ≤ q → (first_pages per users).live q ≡ false
-  dead q h =
-      let up : length users ≤ q / per = (le-div_iff_mul-le {k = per} {x = length users} {y = q} some).1 h in
-      dead_past per users q up
-
-  -- what a sector holds once it is written, by whether it is a user's
-  abbrev page_if : List ℕ → List (List ℕ) → ℕ → Bool → List ℕ
-  page_if behind old q below =
-      cond (cond below ((first_pages per users).live q) (nat_lt (1024 * (q - first)) (length behind)))
-      (map (λ i. cond below ((first_pages per users).word q i) (slice_index behind (1024 * (q - first) + i))) (range_with_len 0 1024))
-      (sector_of old q)
-
-  page_below : (behind : List ℕ) (old : List (List ℕ)) (q : ℕ) → q < first → page_or (disk_pages per users behind) old q ≡ loaded_sector y old q
-  page_below behind old q lt = ap (page_if behind old q) (lt-ltb q first lt)
-
-  page_behind : (behind : List ℕ) (old : List (List ℕ)) (q : ℕ) → first ≤ q → page_or (disk_pages per users behind) old q ≡ page_if behind old q false
-  page_behind behind old q ge = ap (page_if behind old q) (le-ltb q first ge)
-
-  kept_behind : (old : List (List ℕ)) (q : ℕ) → first ≤ q → sector_of old q ≡ loaded_sector y old q
-  kept_behind old q ge = sym (cond-false ((first_pages per users).live q) _ _ (dead q ge))
-
-  loaded_are : (old : List (List ℕ)) → first ≤ length old → pages_written (user_pages y) first old ≡ (loaded y old).device.sectors
-  loaded_are old le = written_is (user_pages y) first old (loaded_sector y old) le (λ q lt. page_below [] old q lt) (λ q ge. kept_behind old q ge)
-
-  -- a sector of the disk with a ROM's words, by whether its number is below these, and below all
-  abbrev sector_if : List (List ℕ) → ℕ → Bool → Bool → List ℕ
-  sector_if old q low all = cond (not low && all) (page_of y.boot.words (q - first)) (loaded_sector y old q)
-
-  of_user : (old : List (List ℕ)) (q : ℕ) → q < first → loaded_sector y old q ≡ rom_sector y old q
-  of_user old q lt = sym (ap (λ low. sector_if old q low (nat_lt q many)) (lt-ltb q first lt))
-
-  of_words : (old : List (List ℕ)) (q : ℕ) → first ≤ q → q < many → page_if y.boot.words old q false ≡ rom_sector y old q
-  of_words old q ge lt =
-      let in_words : 1024 * (q - first) < length y.boot.words = omega (arith, ge, lt) in
-      cond-true (nat_lt (1024 * (q - first)) (length y.boot.words)) _ _ (lt-ltb (1024 * (q - first)) (length y.boot.words) in_words)
-      ∙ sym (ap₂ (λ low all. sector_if old q low all) (le-ltb q first ge) (lt-ltb q many lt))
-
-  of_disk : (old : List (List ℕ)) (q : ℕ) → many ≤ q → sector_of old q ≡ rom_sector y old q
-  of_disk old q ge =
-      let above : first ≤ q = omega (arith, ge) in
-      kept_behind old q above ∙ sym (ap₂ (λ low all. sector_if old q low all) (le-ltb q first above) (le-ltb q many ge))
-
-  rom_are : (old : List (List ℕ)) → many ≤ length old → pages_written (rom_pages y) many old ≡ (rom_loaded y (own_rom y) old).device.sectors
-  rom_are old le = written_is (rom_pages y) many old (rom_sector y old) le
-      (λ q lt. ⊎_elim
-      (λ (l : q < first). page_below y.boot.words old q l ∙ of_user old q l)
-      (λ (ge : first ≤ q). page_behind y.boot.words old q ge ∙ of_words old q ge lt)
-      (cases_lt q first))
-      (λ q ge. of_disk old q ge)
-
-  pub load_makes : (p : StartPoint) (old : List (List ℕ)) → held_of p y ≤ length old → sectors_after (load_script (pages_loaded p y) (held_of p y)) old ≡ (start_of p y old).device.sectors
-  load_makes Loaded old le = load_stores (user_pages y) (user_sectors y) old ∙ loaded_are old le
-  load_makes Rom old le = load_stores (rom_pages y) (rom_sectors y) old ∙ rom_are old le
+pub load_makes : (y : System) → 1 ≤ y.boot.params.pages → (p : StartPoint) (old : List (List ℕ)) → held_of p y ≤ length old → sectors_after (load_script (pages_loaded p y) (held_of p y)) old ≡ (start_of p y old).device.sectors
+load_makes y some Loaded old le = loaded_are y some old le
+load_makes y some Rom old le = rom_are y some (own_rom y) old le

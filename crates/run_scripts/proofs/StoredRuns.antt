@@ -11,7 +11,8 @@ use Rattle.boot_run.specs.Closing.{opening_script, closing_script}
 use Rattle.boot_run.specs.RunScript.{rest_script, run_script}
 use Rattle.run_scripts.proofs.ScriptsMadeOf.{Closed, of_if, of_opening, of_report, of_rows}
 use Rattle.boot_run.proofs.AbstractRuns.{on_before}
-use Rattle.run_scripts.proofs.ScriptsStore.{stored-append, quiet_stores, stored_scripts, step_stores}
+use Rattle.boot_run.proofs.LoadStores.{stored-append}
+use Rattle.run_scripts.proofs.ScriptsStore.{quiet_stores, stored_scripts, step_stores}
 
 -- WHAT WRITES no sector
 pub quiet : Closed WritesNoSector

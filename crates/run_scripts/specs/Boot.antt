@@ -11,7 +11,6 @@ use Rattle.mips_table.specs.Machine.{State}
 use Rattle.mips_machine.specs.Steps.{outside_of}
 use Rattle.mips_table.specs.Turns.{lines_of_turn}
 use Rattle.cvm_model.specs.Cvm.{System, Cvm, IsCvm}
-use Rattle.cvm_model.specs.KernelMeaning.{kernel_meaning}
 use Rattle.layer_contract.specs.Follows.{loaded}
 use Rattle.layer_contract.specs.Starts.{user_sectors}
 use Rattle.boot_turns.specs.declared.answers.View.TheVariants as view
@@ -30,16 +29,12 @@ use Rattle.run_scripts.specs.Command.{BootCommand, Trace, Sample, IsBoot, IsTrac
 use Rattle.cvm_outside.specs.Outside.{Outside}
 use Rattle.run_scripts.specs.RunStatus.{status_of_end}
 use Rattle.run_scripts.specs.RanFrom.{RanFrom}
-use Rattle.run_scripts.specs.Plan.{Accepts, IsLinkedTo}
+use Rattle.run_scripts.specs.Plan.{Accepts, IsLinkedTo, boot_of_image}
 use Rattle.run_scripts.specs.Served.{NoCallFails}
 
--- the abstract run of an accepted system under a schedule: its kernel is what its own source means
+-- the abstract run of an accepted system under a schedule
 abbrev pub booted : ImageSystem → Rows → System
-booted s rows = record {
-  boot = record { params = s.params; meaning = kernel_meaning s.unit s.params; words = s.words; users = s.users };
-  input = rows.inputs;
-  longest = longest rows;
-}
+booted s rows = record { boot = boot_of_image s; input = rows.inputs; longest = longest rows }
 
 -- what surrounds its machine: the schedule's lines and busy times, and the number of sectors
 abbrev pub environment_of : Rows → Outside → Environment

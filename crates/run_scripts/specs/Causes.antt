@@ -1,6 +1,7 @@
 -- WHY A STATUS IS WHAT IT IS, as laws.
 use Rattle.std.specs.Prelude.{◌≡◌, ◌≢◌, ◌⊎◌, ℕ, ◌<◌, ◌≤◌, false, List, [], length, codes, Option, Some, None}
-use Rattle.cvm_outside.specs.Told.{TOO_LONG}
+use Rattle.std.specs.Io.KnownBytes.{append_known}
+use Rattle.cvm_outside.specs.Told.{TOO_LONG, retold}
 use Rattle.schedule_file.specs.Rows.{Rows}
 use Rattle.boot_turns.specs.declared.answers.View.TheVariants.{Trace}
 use Rattle.kernel_linker.specs.Accept.{ImageSystem}
@@ -11,7 +12,7 @@ use Rattle.run_scripts.specs.Command.{Command, IsCommand, IsNoCommand}
 use Rattle.run_scripts.specs.Refusal.{Refusal, small_disk, no_such_user, too_long, refusal_status, refusal_text}
 use Rattle.run_scripts.specs.Plan.{Plan, refuses, puts, boots, saves, resumes, prints as tells, PlanComesTo, AllTold, IsPlan}
 use Rattle.cvm_outside.specs.Script.{Who, TheSink, TheDisk, TheShelf}
-use Rattle.cvm_outside.specs.Outside.{Outside}
+use Rattle.cvm_outside.specs.Outside.{Outside, Files, Output}
 use Rattle.cvm_outside.specs.ScriptLaws.{Blamed, PrintedBy}
 use Rattle.boot_turns.specs.Runs.{Run, steps_made, has_ended}
 use Rattle.run_scripts.specs.Boot.{sectors_needed}
@@ -138,7 +139,18 @@ abbrev pub RunsEnd : Type 0
 RunsEnd = (words : List (List ℕ)) (old new : Outside) (status : Status) (p : Plan) → AllTold words old.shelf.file →
     PlanComesTo words old.shelf.file p → IsRun p old.disk.size → NoneFailed words old new → Ends words old new status → status ≢ Memory → IsRunStatus status
 
--- COMPLETENESS of the other commands: with nothing to refuse and no failed call they are done
+-- an output behind which a text was printed
+abbrev pub with_text : Output → (text : List ℕ) → Output
+with_text sink text = record sink { text = append_known sink.text text }
+
+-- WHAT WORK LEAVES: the file that is put has these bytes, and nothing is printed; or this text is printed, and no file has other bytes than it had
+abbrev pub WorkLeaves : Plan → (old new : Outside) → Type 0
+WorkLeaves (puts name bytes) old new = (new.shelf.file name ≡ retold (old.shelf.file name) bytes) × (new.sink ≡ old.sink)
+WorkLeaves (tells text) old new = (new.sink ≡ with_text old.sink text) × ((n : List ℕ) → new.shelf.file n ≡ old.shelf.file n)
+WorkLeaves other old new = ⊥
+
+-- COMPLETENESS of the other commands: with nothing to refuse and no failed call they are done, and leave this (of other files and the disk: Shapes)
 abbrev pub WorkCompletes : Type 0
 WorkCompletes = (words : List (List ℕ)) (old new : Outside) (status : Status) (p : Plan) → AllTold words old.shelf.file →
-    PlanComesTo words old.shelf.file p → IsWork p → NoneFailed words old new → Ends words old new status → status ≢ Memory → status ≡ Done
+    PlanComesTo words old.shelf.file p → IsWork p → NoneFailed words old new → Ends words old new status → status ≢ Memory →
+    (status ≡ Done) × WorkLeaves p old new

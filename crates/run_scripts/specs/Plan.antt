@@ -16,13 +16,13 @@ use Rattle.kernel_linker.specs.declared.fault.LinkFault.{LinkFault}
 use Rattle.layer_map.specs.Map.{Map, memory_frames}
 use Rattle.layer_map.specs.declared.params.Params.{Params}
 use Rattle.real_layer.specs.Image.{layer_image}
-use Rattle.cvm_model.specs.Cvm.{map_of}
+use Rattle.cvm_model.specs.Cvm.{Boot, map_of}
 use Rattle.cvm_model.specs.KernelMeaning.{kernel_meaning}
-use Rattle.saved_file.specs.Resumable.{Wanted}
 use Rattle.saved_file.specs.Answer.{answer as machine_of}
 use Rattle.saved_file.specs.declared.fault.SaveFault.{SaveFault}
 use Rattle.saved_file.specs.declared.fault.SaveFault.TheVariants.{SaveTooLarge as FileTooLarge}
 use Rattle.boot_run.specs.SaveRoom.{most_words, FILE_ROOM}
+use Rattle.boot_run.specs.SavedFiles.{wanted_of}
 use Rattle.boot_image.specs.Format.{spelling as image_bytes}
 use Rattle.boot_image.specs.Parts.{ImageParts as Image}
 use Rattle.boot_image.specs.Reading.{answer as image_of, old_answer as old_image_of}
@@ -109,9 +109,13 @@ AfterFiles layer session image schedule p =
 abbrev pub BootPlan : (layer : Map → List ℕ → List ℕ) → (List ℕ → Option (List ℕ)) → BootCommand → Session → Plan → Type 0
 BootPlan layer file b session p = Got (file b.image) (λ image. Got (file b.schedule) (AfterFiles layer session image)) p
 
+-- what is booted of an accepted image: its kernel is what its own source means
+abbrev pub boot_of_image : ImageSystem → Boot
+boot_of_image s = record { params = s.params; meaning = kernel_meaning s.unit s.params; words = s.words; users = s.users }
+
 -- the frames of memory of a system's machine
 abbrev pub frames_of : ImageSystem → ℕ
-frames_of s = memory_frames (map_of (record { params = s.params; meaning = kernel_meaning s.unit s.params; words = s.words; users = s.users }))
+frames_of s = memory_frames (map_of (boot_of_image s))
 
 -- the most bytes that the file of its machine may have, with a full log
 abbrev pub most_bytes : ImageSystem → ℕ
@@ -122,18 +126,13 @@ abbrev pub saved_plan : (name : List ℕ) → Plan → Plan
 saved_plan name (boots session s rows) = if nat_lt FILE_ROOM (most_bytes s) then refuses (bad_save (FileTooLarge (most_bytes s))) else saves session s rows name
 saved_plan name other = other
 
--- what a saved machine has to fit to be taken up as this system's, under this schedule, for so many turns
-abbrev pub wanted_by : ImageSystem → Rows → (turns : ℕ) → Wanted
-wanted_by s rows turns =
-    record { frames = frames_of s; users = length s.users; pages = s.params.pages; inputs = rows.inputs; linked = s.words; turns = turns }
-
 -- AFTER THE FILE of a saved machine it is taken up
 abbrev pub taken_plan : Session → ImageSystem → Rows → Result (List ℕ) SaveFault → Plan
 taken_plan session s rows answer = planned bad_save (resumes session s rows) answer
 
 -- WHAT WOULD BE BOOTED is taken up; what is refused of the image and the schedule is refused here, too
 abbrev pub take_up_plan : (bytes : List ℕ) → Plan → Plan
-take_up_plan bytes (boots session s rows) = taken_plan session s rows (machine_of (wanted_by s rows session.turns) bytes)
+take_up_plan bytes (boots session s rows) = taken_plan session s rows (machine_of (wanted_of (boot_of_image s) rows.inputs session.turns) bytes)
 take_up_plan bytes other = other
 
 -- AFTER THE FILES of a resume the image is accepted and the schedule read, as for its boot, and then the saved machine is

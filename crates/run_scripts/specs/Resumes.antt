@@ -7,7 +7,8 @@ use Rattle.cvm_words.specs.Bytes.{word}
 use Rattle.schedule_file.specs.Rows.{Rows}
 use Rattle.saved_file.specs.Answer.{answer as machine_of}
 use Rattle.boot_run.specs.declared.whole.RunEnd.{RunEnd}
-use Rattle.boot_run.specs.SavedRuns.{IsDisk}
+use Rattle.boot_run.specs.SavedRuns.{SavedAt, IsDisk}
+use Rattle.boot_run.specs.SavedFiles.{wanted_of}
 use Rattle.kernel_linker.specs.Accept.{ImageSystem}
 use Rattle.run_scripts.specs.declared.exit_status.Status.{Status}
 use Rattle.run_scripts.specs.declared.exit_status.Status.TheVariants.{Memory}
@@ -16,9 +17,9 @@ use Rattle.boot_turns.specs.Runs.{Run, state_at, steps_made, has_ended}
 use Rattle.run_scripts.specs.Ends.{GoesOn}
 use Rattle.run_scripts.specs.RunStatus.{status_of_end, power_status}
 use Rattle.cvm_outside.specs.Outside.{Outside}
-use Rattle.run_scripts.specs.Plan.{wanted_by}
+use Rattle.run_scripts.specs.Plan.{boot_of_image}
 use Rattle.run_scripts.specs.Boot.{environment_of, booted, start_state, sectors_needed, SessionGoesOn, SessionRan, AreFilesOf}
-use Rattle.run_scripts.specs.Saves.{IsSavedAt, Stopped, IsSavedIn}
+use Rattle.run_scripts.specs.Saves.{Stopped, IsSavedIn}
 use Rattle.run_scripts.specs.Served.{NoCallFails}
 
 -- THE PREMISES: the words of a resume, and files that are an accepted image, a valid schedule and the file of a machine that can be taken up; an honest disk
@@ -30,7 +31,7 @@ pub record IsHonestResume (words : List (List ℕ)) (c : Save) (s : ImageSystem)
   pub bytes : List ℕ
   pub bytes_told : old.shelf.file c.file ≡ Some bytes
   pub bytes_short : length bytes < TOO_LONG
-  pub fits : machine_of (wanted_by s rows c.boot.turns) bytes ≡ Ok machine
+  pub fits : machine_of (wanted_of (boot_of_image s) rows.inputs c.boot.turns) bytes ≡ Ok machine
   pub sectors : old.disk.sectors ≡ Some left
   pub enough : sectors_needed (save_session c) s rows ≤ old.disk.size
   pub served : NoCallFails (c.boot.image ∷ c.boot.schedule ∷ c.file ∷ []) old new
@@ -53,7 +54,7 @@ pub record IsSavedRun (c : Save) (s : ImageSystem) (rows : Rows) (machine : List
   pub steps : ℕ
   pub disk : IsDisk old.disk.size before
   pub fewer : steps ≤ c.boot.steps
-  pub saved_at : IsSavedAt (environment_of rows old) (booted s rows) (start_state (save_session c) s rows before) turns steps machine left shown
+  pub saved_at : SavedAt (environment_of rows old) (booted s rows) (start_state (save_session c) s rows before) turns steps machine left shown
 
 -- THE BOOT AS A WHOLE: the sectors and the status are its, and so is the text behind what the first call showed; and its machine comes to the end of
 -- every turn

@@ -1,28 +1,25 @@
 -- The claim of a save: the run of its boot, which is left where the boot prints `stopped`, with the file of the machine there.
-use Rattle.std.specs.Prelude.{◌≡◌, ◌≢◌, ℕ, ◌<◌, ◌≤◌, ◌^◌, List, ◌++◌, length, codes, Some, None, Ok}
+use Rattle.std.specs.Prelude.{◌≡◌, ◌≢◌, ℕ, ◌<◌, ◌≤◌, ◌^◌, List, ◌++◌, length, codes, Some, Ok}
 use Rattle.std.specs.List.{flat_map}
 use Rattle.std.specs.Io.KnownBytes.{append_known}
 use Rattle.cvm_outside.specs.Told.{retold}
 use Rattle.cvm_words.specs.Bytes.{word}
 use Rattle.schedule_file.specs.Rows.{Rows}
-use Rattle.mips_table.specs.Device.{Environment}
-use Rattle.mips_table.specs.Machine.{State, run}
-use Rattle.mips_table.specs.Turns.{lines_of_turn, end_within, IsTurnEnd}
-use Rattle.mips_machine.specs.Saved.{saved}
-use Rattle.cvm_model.specs.Cvm.{System, Cvm, IsCvm}
-use Rattle.cvm_model.specs.Text.{rows_text}
+use Rattle.mips_table.specs.Machine.{run}
+use Rattle.mips_table.specs.Turns.{end_within}
 use Rattle.saved_file.specs.Answer.{answer as machine_of}
 use Rattle.boot_run.specs.declared.whole.RunEnd.TheVariants.{Done as IsDone}
 use Rattle.boot_run.specs.RunScript.{saved_row}
-use Rattle.boot_run.specs.SavedRuns.{IsDisk}
+use Rattle.boot_run.specs.SavedRuns.{SavedAt, IsDisk}
 use Rattle.kernel_linker.specs.Accept.{ImageSystem}
 use Rattle.boot_run.specs.SaveRoom.{FILE_ROOM}
+use Rattle.boot_run.specs.SavedFiles.{wanted_of}
 use Rattle.run_scripts.specs.declared.exit_status.Status.{Status}
 use Rattle.run_scripts.specs.declared.exit_status.Status.TheVariants.{Done, Memory}
 use Rattle.run_scripts.specs.declared.session.Session.{Session}
 use Rattle.run_scripts.specs.Command.{Save, IsSave, save_session}
 use Rattle.cvm_outside.specs.Outside.{Outside}
-use Rattle.run_scripts.specs.Plan.{most_bytes, wanted_by}
+use Rattle.run_scripts.specs.Plan.{most_bytes, boot_of_image}
 use Rattle.run_scripts.specs.Boot.{environment_of, booted, start_state, sectors_needed, SessionGoesOn, SessionRan, Headline, AreFilesOf}
 use Rattle.run_scripts.specs.Served.{Unfailed}
 
@@ -31,19 +28,6 @@ abbrev pub SessionHalted : Session → ImageSystem → Rows → (before : List (
 SessionHalted session s rows before old =
     (run (environment_of rows old) (start_state session s rows before)
     (end_within (environment_of rows old) (start_state session s rows before) session.turns session.steps)).off ≡ Some 0
-
--- THE SAVED RUN of so many turns, from `s`: the first step at which they are complete comes within the steps; the machine is on there, and the abstract
--- run has come to `past`; the words are those of the machine, with these turns and its current user; `left` are its sectors, and `shown` is the run's text
-pub record IsSavedAt (x : Environment) (y : System) (s : State) (turns steps : ℕ) (words : List ℕ) (left : List (List ℕ)) (shown : List ℕ) : Type 0 where
-  pub at : ℕ
-  pub past : Cvm
-  pub end : IsTurnEnd x s turns at
-  pub within : at ≤ steps
-  pub on : (run x s at).off ≡ None
-  pub cvm : IsCvm y (lines_of_turn x s) turns past
-  pub words_are : words ≡ saved y.input (run x s at) turns past.core.current
-  pub left_is : left ≡ (run x s at).device.sectors
-  pub shown_is : shown ≡ rows_text past.rows
 
 -- A RUN THAT WAS LEFT TO BE SAVED, over a disk with these sectors: the boot prints `shown`, and `stopped` and more behind it; these words are those of
 -- its machine there, with its complete turns and its current user, and the sectors are that machine's; and this comes to the end of every turn. The file of
@@ -56,11 +40,11 @@ pub record Stopped (session : Session) (s : ImageSystem) (rows : Rows) (before :
   pub rest : List ℕ
   pub disk : IsDisk old.disk.size before
   pub sectors : new.disk.sectors ≡ Some after
-  pub saved_at : IsSavedAt (environment_of rows old) (booted s rows) (start_state session s rows before) session.turns session.steps words after shown
+  pub saved_at : SavedAt (environment_of rows old) (booted s rows) (start_state session s rows before) session.turns session.steps words after shown
   pub ran : SessionRan session s rows old before after IsDone (shown ++ (codes "stopped\n" ++ rest))
   pub goes_on : SessionGoesOn session old s rows before
   pub short : length (flat_map word words) ≤ FILE_ROOM
-  pub fits : (turns : ℕ) → session.turns ≤ turns → turns < 2 ^ 32 → machine_of (wanted_by s rows turns) (flat_map word words) ≡ Ok words
+  pub fits : (turns : ℕ) → session.turns ≤ turns → turns < 2 ^ 32 → machine_of (wanted_of (boot_of_image s) rows.inputs turns) (flat_map word words) ≡ Ok words
   pub left : Left shown (flat_map word words)
 
 -- its bytes are those of the file, where that is told, and the row is printed

@@ -1,7 +1,6 @@
 -- WHICH CALLS a command makes, as laws: its gets in their order and then no further one, at most one put, of the file that its words name, and no call of the
 -- disk where it loads nothing, or is refused.
-use Rattle.std.specs.Prelude.{◌≡◌, ◌≢◌, ◌⊎◌, ℕ, ◌+◌, ⊤, List, [], ◌∷◌, ◌++◌, length, Option, Some, None}
-use Rattle.cvm_outside.specs.Told.{TOO_LONG}
+use Rattle.std.specs.Prelude.{◌≡◌, ◌≢◌, ℕ, ◌+◌, ⊤, List, [], ◌∷◌, length, Option, Some, None}
 use Rattle.run_scripts.specs.declared.exit_status.Status.{Status}
 use Rattle.run_scripts.specs.declared.exit_status.Status.TheVariants.{Words, Refused, Disk, Shelf, Memory}
 use Rattle.run_scripts.specs.Command.{Command, IsCommand, boot, trace, save, resume, sample}
@@ -10,8 +9,8 @@ use Rattle.run_scripts.specs.Plan.{Plan, refuses, PlanComesTo}
 use Rattle.cvm_outside.specs.Script.{Call, Got, Stored, Who, Performs}
 use Rattle.cvm_outside.specs.Outside.{Outside, shelf_counts}
 use Rattle.cvm_outside.specs.Numbering.{called}
-use Rattle.run_scripts.specs.Ends.{Ends, done, no_file, no_memory, WasDone, PlanAsks, IsNotGot, Wants, AreShort, MayBeLong, answered}
-use Rattle.run_scripts.specs.Served.{files_of, gets, file_put}
+use Rattle.run_scripts.specs.Ends.{Ends, done, no_file, no_memory, WasDone, PlanAsks, GetsFor, IsNotGot, Wants, answered}
+use Rattle.run_scripts.specs.Served.{files_of, file_put}
 
 -- a command that loads a machine
 abbrev pub Loads : Command → Type 0
@@ -75,25 +74,12 @@ CameToNothing (no_memory c is w) = ⊤
 abbrev pub RefusalsKeepTheDisk : Type 0
 RefusalsKeepTheDisk = (words : List (List ℕ)) (old new : Outside) (status : Status) (e : Ends words old new status) → CameToNothing e → new.disk ≡ old.disk
 
--- the last of these files is the first that is too long, of which 67,108,865 bytes were taken
-pub record EndsLong (file : List ℕ → Option (List ℕ)) (made : List (List ℕ)) (taken : ℕ) : Type 0 where
-  pub short : List (List ℕ)
-  pub long : List ℕ
-  pub are : made ≡ short ++ long ∷ []
-  pub are_short : AreShort file short
-  pub is_long : MayBeLong (file long)
-  pub taken_is : taken ≡ TOO_LONG
-
--- all the files of a command, none of which is too long; or those up to one that is
-abbrev pub AreGot : (old new : Outside) → (made rest : List (List ℕ)) → Type 0
-AreGot old new made rest = ((rest ≡ []) × (made ≢ [] → new.shelf.taken ≢ TOO_LONG)) ⊎ EndsLong old.shelf.file made new.shelf.taken
-
--- THE GETS come first, in the order of the words: these were got, and behind them calls are made of which none is a get; or a get failed, and no call was
--- made behind it; or memory was wanted, with some of the gets made and nothing else
+-- THE GETS come first, in the order of the words: all files were got, or those up to one that is too long, and behind them calls are made of which none is
+-- a get; or a get failed, and no call was made behind it; or memory was wanted, with some of the gets made and nothing else
 pub data GotInOrder (c : Command) (old new : Outside) : Status → Type 0 where
-  were_got : (status due : Status) (made rest : List (List ℕ)) (mid : Outside) (script : List Call) (blamed : Option Who) → made ++ rest ≡ files_of c →
-      AreGot old new made rest → Performs (gets made) old mid None → ScriptShape c script → Performs script mid new blamed → status ≡ answered due blamed →
-      GotInOrder c old new status
+  were_got : (status due : Status) (plan : Plan) (mid : Outside) (got script : List Call) (blamed : Option Who) →
+      GetsFor old.shelf.file (files_of c) new.shelf.taken plan got → Performs got old mid None → ScriptShape c script → Performs script mid new blamed →
+      status ≡ answered due blamed → GotInOrder c old new status
   ungot : IsNotGot (files_of c) old new → GotInOrder c old new Shelf
   wanting : Wants (files_of c) old new → GotInOrder c old new Memory
 

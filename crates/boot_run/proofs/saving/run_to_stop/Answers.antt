@@ -1,9 +1,10 @@
-use Rattle.std.proofs.Common.{sym, subst}
+use Rattle.std.proofs.Common.{refl, sym, subst}
 use Rattle.boot_run.specs.RunEnds.{EndsUnsaved}
 use Rattle.boot_run.proofs.AnyEnding.{fault_unsaved}
 use Rattle.boot_run.proofs.WhereSavesStop.{stopped}
-use Rattle.boot_run.specs.SaveCalls.{ToStopCalls}
-use Rattle.boot_run.proofs.SaveScripts.{stop_fails, stop_comes}
+use Rattle.boot_run.specs.SaveCalls.{unless_on, stop_by, ToStopCalls}
+use Rattle.boot_run.proofs.EndScripts.{rest_fails, rest_closes}
+use Rattle.boot_run.proofs.SaveScripts.{stop_parts}
 use Rattle.boot_run.proofs.saving.run_to_stop.Goals as goal
 
 pub returns-in-Ok-clause-stops : goal.returns-in-Ok-clause-stops
@@ -21,11 +22,11 @@ returns-in-Err-clause-unput g c = λ is. subst EndsUnsaved is (fault_unsaved c.i
 -- the calls
 pub returns-in-Ok-clause-script : goal.returns-in-Ok-clause-script
 returns-in-Ok-clause-script g c =
-    stop_comes g.O.Sink g.D.Sectors c.args.run.now c.go.new.run c.args.out.now c.go.new.out c.stop.new.out c.args.disk.now c.go.new.disk c.stop.new.disk c.args.limits.turns c.args.limits.steps c.go.new.budget c.machines_run.ensures c.turns_are_counted.ensures c.stop.result
-    c.in-Ok.ensures.kept c.in-Ok.ensures.size c.in-Ok.ensures.ends c.in-Ok.ensures.script.boots c.stop.ensures.script
+    rest_closes unless_on stop_by (λ st. refl) stop_parts g.O.Sink g.D.Sectors c.args.run.now c.go.new.run c.args.out.now c.go.new.out c.stop.new.out c.args.disk.now c.go.new.disk c.stop.new.disk c.args.limits.turns c.args.limits.steps c.go.new.budget c.machines_run.ensures c.turns_are_counted.ensures c.stop.result
+    c.in-Ok.ensures.kept c.in-Ok.ensures.size c.in-Ok.ensures.ends c.in-Ok.ensures.script.boots c.stop.ensures.script.exact c.stop.ensures.script.some
 
 pub returns-in-Err-clause-script : goal.returns-in-Err-clause-script
 returns-in-Err-clause-script g c =
     subst (ToStopCalls g.O.Sink g.D.Sectors c.args.run.now c.args.limits.turns c.args.limits.steps (c.args.out.now, c.args.disk.now) (c.go.new.out, c.go.new.disk)) (sym c.end_at.ensures)
-    (stop_fails {T = Unit {0}} g.O.Sink g.D.Sectors c.args.run.now c.go.new.run c.args.out.now c.go.new.out c.args.disk.now c.go.new.disk c.args.limits.turns c.args.limits.steps c.go.new.budget c.machines_run.ensures c.turns_are_counted.ensures c.in-Err.fault
+    (rest_fails unless_on stop_by (λ st. refl) stop_parts {T = Unit {0}} g.O.Sink g.D.Sectors c.args.run.now c.go.new.run c.args.out.now c.go.new.out c.args.disk.now c.go.new.disk c.args.limits.turns c.args.limits.steps c.go.new.budget c.machines_run.ensures c.turns_are_counted.ensures c.in-Err.fault
     c.in-Err.ensures.ends c.in-Err.ensures.script.boots)

@@ -13,4 +13,4 @@ returns g c = λ shelf.
     let disk = drive g.D.Sectors c.args.disk.now in
     end_said g.O.Sink r c.args.session None shelf (drive g.D.Sectors a.new.disk) a.new.out c.say_end.new.out (beside sink disk shelf) c.say_end.result a.result (a.ensures.answers shelf shelf)
     (λ begun room. begun_does g.O.Sink g.D.Sectors r c.args.session c.args.out.now a.new.out c.args.disk.now a.new.disk shelf a.result begun a.ensures.calls a.ensures.pasts (same_sight r.boot c.args.session.view room.user) room.room)
-    (λ other. unmoved a.result (λ o d. beside (output g.O.Sink o) (drive g.D.Sectors d) shelf) c.args.out.now a.new.out c.args.disk.now a.new.disk a.ensures.unprinted (a.ensures.still other)) c.say_end.ensures
+    (unmoved a.result a.ensures.calls.none (λ q. beside (output g.O.Sink q.0) (drive g.D.Sectors q.1) shelf)) c.say_end.ensures

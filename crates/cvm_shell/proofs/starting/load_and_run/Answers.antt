@@ -7,7 +7,7 @@ pub returns-in-Loaded-clause-answers : goal.returns-in-Loaded-clause-answers
 returns-in-Loaded-clause-answers g c = λ before after.
     let r = c.args.ready in
     let e = c.run_whole.ensures.loads in
-    answers_from r c.args.session Loaded (same_need r.boot r.schedule) c.in-Loaded.is _ _ _ e.leaves.refused e.loaded
+    answers_from r c.args.session Loaded (same_need r.boot r.schedule) c.in-Loaded.is _ _ _ e.refused e.loaded
 
 pub returns-in-Loaded-clause-calls : goal.returns-in-Loaded-clause-calls
 returns-in-Loaded-clause-calls g c =
@@ -21,7 +21,7 @@ pub returns-in-Rom-clause-answers : goal.returns-in-Rom-clause-answers
 returns-in-Rom-clause-answers g c = λ before after.
     let r = c.args.ready in
     let e = c.run_rom.ensures.loads in
-    answers_from r c.args.session Rom (same_rom_need r.boot r.schedule) c.in-Rom.is _ _ _ e.leaves.refused e.loaded
+    answers_from r c.args.session Rom (same_rom_need r.boot r.schedule) c.in-Rom.is _ _ _ e.refused e.loaded
 
 pub returns-in-Rom-clause-calls : goal.returns-in-Rom-clause-calls
 returns-in-Rom-clause-calls g c =

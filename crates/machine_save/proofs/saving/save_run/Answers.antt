@@ -1,29 +1,23 @@
 use Rattle.std.proofs.lemmas.Result.{err_from_is_err_and}
-use Rattle.boot_turns.specs.declared.answers.View.TheVariants.{Boot}
 use Rattle.layer_contract.specs.Follows.{loaded}
 use Rattle.boot_run.specs.LoadEnds.{pages_needed}
 use Rattle.boot_run.specs.LoadScript.{load_script}
 use Rattle.boot_run.specs.LoadedPages.{user_pages}
 use Rattle.boot_run.specs.Loading.{system_of}
-use Rattle.boot_run.specs.Whole.{WholeStopped}
-use Rattle.machine_save.proofs.SaveAnswers.{ran_loads, refused_loads}
 use Rattle.machine_save.proofs.SaveCalls.{save_refused, save_stopped, save_ended, save_told, stopped_words}
 use Rattle.machine_save.proofs.saving.save_run.Goals as goal
 
 pub returns-in_err-run-clause-loads : goal.returns-in_err-run-clause-loads
 returns-in_err-run-clause-loads g c =
     let w = err_from_is_err_and c.from_residual.result c.from_residual.ensures.1 in
-    rw (w.1, w.2) (refused_loads g.D.Sectors.size g.D.Sectors.sectors g.D.Sectors.faults g.D.Sectors.calls c.args.setup.boot Boot (pages_needed c.args.setup.boot) (WholeStopped c.args.setup.boot c.args.setup.schedule) c.args.disk.now c.args.out.now c.run_to_save.new.disk c.run_to_save.new.out c.in_err-run.field-0.0 c.in_err-run.ensures.loads)
+    let e = c.in_err-run.ensures.loads in
+    rw (w.1, w.2) (record { refused = e.refused; loaded = tt; calls = record { made = e.calls.made; none = e.calls.none }; unprinted = e.unprinted })
 
 pub returns-in-Stopped-clause-loads : goal.returns-in-Stopped-clause-loads
-returns-in-Stopped-clause-loads g c =
-    ran_loads g.D.Sectors.size g.D.Sectors.sectors g.D.Sectors.faults g.D.Sectors.calls c.args.setup.boot Boot (pages_needed c.args.setup.boot) (WholeStopped c.args.setup.boot c.args.setup.schedule) c.args.disk.now c.args.out.now c.run_to_save.new.disk c.run_to_save.new.out
-    (c.in_ok-run.run', c.in_ok-run.end) c.put_state.result c.put_state.new.out c.in_ok-run.ensures.loads
+returns-in-Stopped-clause-loads g c = record { refused = tt; loaded = c.in_ok-run.ensures.loads.loaded; calls = tt; unprinted = tt }
 
 pub returns-clause-loads : goal.returns-clause-loads
-returns-clause-loads g c =
-    ran_loads g.D.Sectors.size g.D.Sectors.sectors g.D.Sectors.faults g.D.Sectors.calls c.args.setup.boot Boot (pages_needed c.args.setup.boot) (WholeStopped c.args.setup.boot c.args.setup.schedule) c.args.disk.now c.args.out.now c.run_to_save.new.disk c.run_to_save.new.out
-    (c.in_ok-run.run', c.in_ok-run.end) c.in_ok-run.end c.run_to_save.new.out c.in_ok-run.ensures.loads
+returns-clause-loads g c = record { refused = tt; loaded = c.in_ok-run.ensures.loads.loaded; calls = tt; unprinted = tt }
 
 -- the calls
 pub returns-in_err-run-clause-script : goal.returns-in_err-run-clause-script

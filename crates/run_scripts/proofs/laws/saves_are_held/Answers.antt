@@ -7,6 +7,8 @@ returns c = saves_are_held c.laws_below.ensures (record {
     begins = c.a_new_machine_is_steady.ensures;
     stays = c.machines_stay_steady.ensures;
     sums = c.runs_are_taken_up.ensures;
+    counts = c.laws_below.ensures.runs.count;
+    runs = c.laws_below.ensures.runs.machines;
     order = c.parts_are_in_order.ensures;
     whole = c.memory_is_whole.ensures;
   };

@@ -1,7 +1,6 @@
 use Rattle.std.proofs.Common.{refl, arith, ◌≡◌, ◌≤◌, ◌*◌, ◌∙◌, sym, ap, ap₂, ℕ, List, Vec, Global, length, subst}
 use Rattle.std.specs.Prelude.{IsTrue}
 use Rattle.std.specs.Option.{option_map}
-use Rattle.cvm_outside.specs.Numbering.{tally}
 use Rattle.layer_map.specs.Map.{Map, MapInRange, memory_frames, memory_words}
 use Rattle.mips_machine.specs.Machine.{Held}
 use Rattle.cvm_model.specs.Cvm.{map_of}
@@ -10,12 +9,27 @@ use Rattle.boot_turns.specs.Rom.{rom_loaded}
 use Rattle.boot_run.specs.Loading.{pages_of_users, system_of, with_rom}
 use Rattle.boot_run.specs.LoadEnds.{names_sector, rom_needed}
 use Rattle.boot_run.proofs.Readiness.{first_fits, fresh_run, loaded_ready}
-use Rattle.boot_run.proofs.Loads.{calls_so, torn_so, written_so}
-use Rattle.boot_run.proofs.RomLoads.{rom_torn, rom_whole, stands_from_rom}
+use Rattle.boot_run.proofs.LoadStores.{load_fails, load_leaves}
+use Rattle.boot_run.proofs.RomLoads.{rom_whole, stands_from_rom}
+use Rattle.boot_run.specs.Loaded.{rom_load}
 use Rattle.boot_run.specs.LoadedPages.{rom_pages}
 use Rattle.boot_run.proofs.WholeScripts.{load_done, load_broke}
 use Rattle.boot_run.proofs.run.Run.load_words.Goals as goal
 
+-- the calls
+pub returns-in-Ok-clause-script : goal.returns-in-Ok-clause-script
+returns-in-Ok-clause-script g c =
+    let b = c.args.setup.boot in
+    load_done g.D.Sectors c.args.disk.now c.write_pages.new.disk (pages_of_users b.params.pages c.as_slice-users.result.now c.as_slice-words.result.now) (rom_pages (system_of b c.args.setup.schedule)) c.rom_needed.result (rom_needed b)
+    (ap₂ (λ (us : List (Vec ℕ Global)) (ws : List ℕ). pages_of_users b.params.pages us ws) c.as_slice-users.ensures.value c.as_slice-words.ensures.value) c.rom_needed.ensures _ c.in-Ok.ensures.script
+
+pub returns-in-Err-clause-script : goal.returns-in-Err-clause-script
+returns-in-Err-clause-script g c =
+    let b = c.args.setup.boot in
+    load_broke g.D.Sectors c.args.disk.now c.write_pages.new.disk (pages_of_users b.params.pages c.as_slice-users.result.now c.as_slice-words.result.now) (rom_pages (system_of b c.args.setup.schedule)) c.rom_needed.result (rom_needed b)
+    (ap₂ (λ (us : List (Vec ℕ Global)) (ws : List ℕ). pages_of_users b.params.pages us ws) c.as_slice-users.ensures.value c.as_slice-words.ensures.value) c.rom_needed.ensures c.in-Err.field-0 c.in-Err.ensures.script
+
+-- and what it comes to
 pub returns-in-Ok-clause-loaded : goal.returns-in-Ok-clause-loaded
 returns-in-Ok-clause-loaded g c =
     let b = c.args.setup.boot in
@@ -25,8 +39,7 @@ returns-in-Ok-clause-loaded g c =
     let map = c.in_ok-layout.ensures.map ∙ c.memory_map.ensures ∙ c.requires.follows.made.same_map in
     let made : c.in_ok-machine.machine ≡ with_rom (memory_frames (map_of (boot_of b))) rom rows = c.in_ok-machine.ensures ∙ ap (λ (m : Map). with_rom (memory_frames m) rom rows) map in
     let stands = stands_from_rom b rows rom c.requires.few (omega arith) c.in_ok-machine.machine (g.D.Sectors.sectors c.args.disk.now) (g.D.Sectors.sectors c.write_pages.new.disk) (g.D.Sectors.size c.args.disk.now) some made
-    (written_so b rows c.as_slice-users.result.now c.as_slice-words.result.now b.words.items _ (rom_needed b) (g.D.Sectors.sectors c.args.disk.now) (g.D.Sectors.sectors c.write_pages.new.disk) (tally g.D.Sectors.faults g.D.Sectors.calls c.args.disk.now) (tally g.D.Sectors.faults g.D.Sectors.calls c.write_pages.new.disk)
-    c.as_slice-users.ensures.value c.as_slice-words.ensures.value c.rom_needed.ensures c.in-Ok.ensures.writes.ok)
+    (load_leaves g.D.Sectors c.args.disk.now c.write_pages.new.disk (rom_load b rows rom).script (returns-in-Ok-clause-script g c))
     (g.met.D.Sectors.sized c.args.disk.now) c.requires.room.room in record {
       fresh = fresh_run c.args.setup.layer b c.args.view rows c.count-count.result (rom_needed b) (g.D.Sectors.size c.args.disk.now) (length b.users.items) c.in_ok-machine.machine c.first_tracer.result
           c.count-count.ensures (ap (λ (m : Held). m.rows) c.in_ok-machine.ensures) (ap (λ (m : Held). m.time) c.in_ok-machine.ensures) c.first_tracer.ensures c.requires.room.user refl c.requires.room.room;
@@ -35,24 +48,13 @@ returns-in-Ok-clause-loaded g c =
       ready = λ x old budget e.
           loaded_ready x (system_of b rows) (rom_loaded (system_of b rows) rom old) c.args.view c.first_tracer.result c.first_tracer.ensures budget c.in_ok-machine.machine (g.D.Sectors.sectors c.write_pages.new.disk)
           (stands ∙ ap (option_map (rom_loaded (system_of b rows) rom)) e) (ap (λ (m : Held). m.time) c.in_ok-machine.ensures);
-      unfailed = c.in-Ok.ensures.writes.count.same;
-      calls = calls_so b rows c.as_slice-users.result.now c.as_slice-words.result.now b.words.items _ (rom_needed b) (g.D.Sectors.sectors c.args.disk.now) (g.D.Sectors.sectors c.write_pages.new.disk) (tally g.D.Sectors.faults g.D.Sectors.calls c.args.disk.now) (tally g.D.Sectors.faults g.D.Sectors.calls c.write_pages.new.disk)
-          c.as_slice-users.ensures.value c.as_slice-words.ensures.value c.rom_needed.ensures c.in-Ok.ensures.writes.calls;
     }
 
-pub returns-in-Err-clause-leaves : goal.returns-in-Err-clause-leaves
-returns-in-Err-clause-leaves g c =
-    let b = c.args.setup.boot in
-    let rows = c.args.setup.schedule in
-    let some : 1 ≤ b.params.pages = subst (λ (m : Map). 1 ≤ m.params.pages) c.requires.follows.made.same_map c.requires.follows.made.range.params.a_page in record {
-      refused = (c.requires.room, c.in-Err.ensures.writes.count.rose);
-      stopped = λ h. rom_torn b rows c.args.rom.now (g.D.Sectors.sectors c.args.disk.now) (g.D.Sectors.sectors c.write_pages.new.disk) (tally g.D.Sectors.faults g.D.Sectors.calls c.args.disk.now) (tally g.D.Sectors.faults g.D.Sectors.calls c.write_pages.new.disk) (g.D.Sectors.size c.args.disk.now) some
-          (torn_so b rows c.as_slice-users.result.now c.as_slice-words.result.now b.words.items _ (rom_needed b) (g.D.Sectors.sectors c.args.disk.now) (g.D.Sectors.sectors c.write_pages.new.disk) (tally g.D.Sectors.faults g.D.Sectors.calls c.args.disk.now) (tally g.D.Sectors.faults g.D.Sectors.calls c.write_pages.new.disk)
-          c.as_slice-users.ensures.value c.as_slice-words.ensures.value c.rom_needed.ensures c.in-Err.ensures.writes.torn)
-          (g.met.D.Sectors.sized c.args.disk.now) c.requires.room.room;
-      still = λ ne. absurd (ne refl);
-      same_size = c.write_pages.ensures.writes.same_size;
-    }
+pub returns-in-Err-clause-refused : goal.returns-in-Err-clause-refused
+returns-in-Err-clause-refused g c = (
+  c.requires.room,
+  load_fails g.D.Sectors c.args.disk.now c.write_pages.new.disk (rom_load c.args.setup.boot c.args.setup.schedule c.args.rom.now).script (returns-in-Err-clause-script g c),
+)
 
 pub invariant_of-result : goal.invariant_of-result
 invariant_of-result g c =
@@ -75,16 +77,3 @@ invariant_of-result g c =
       },
       first_fits c.args.view c.first_tracer.result c.first_tracer.ensures (length b.users.items) c.in_ok-machine.machine.time c.requires.room.user,
     )
-
--- the calls
-pub returns-in-Ok-clause-script : goal.returns-in-Ok-clause-script
-returns-in-Ok-clause-script g c =
-    let b = c.args.setup.boot in
-    load_done g.D.Sectors c.args.disk.now c.write_pages.new.disk (pages_of_users b.params.pages c.as_slice-users.result.now c.as_slice-words.result.now) (rom_pages (system_of b c.args.setup.schedule)) c.rom_needed.result (rom_needed b)
-    (ap₂ (λ (us : List (Vec ℕ Global)) (ws : List ℕ). pages_of_users b.params.pages us ws) c.as_slice-users.ensures.value c.as_slice-words.ensures.value) c.rom_needed.ensures _ c.in-Ok.ensures.script
-
-pub returns-in-Err-clause-script : goal.returns-in-Err-clause-script
-returns-in-Err-clause-script g c =
-    let b = c.args.setup.boot in
-    load_broke g.D.Sectors c.args.disk.now c.write_pages.new.disk (pages_of_users b.params.pages c.as_slice-users.result.now c.as_slice-words.result.now) (rom_pages (system_of b c.args.setup.schedule)) c.rom_needed.result (rom_needed b)
-    (ap₂ (λ (us : List (Vec ℕ Global)) (ws : List ℕ). pages_of_users b.params.pages us ws) c.as_slice-users.ensures.value c.as_slice-words.ensures.value) c.rom_needed.ensures c.in-Err.field-0 c.in-Err.ensures.script
