@@ -38,3 +38,7 @@ mod Scopes
 mod Shifts
 mod Structs
 mod TypedNumbers
+mod NodesAreMade
+mod TypedKnown
+mod NodePatches
+mod NodeTests

@@ -109,7 +109,7 @@ behinds is x f h = record { same = same; within = within; law = law }
         ∙ h.law far to (before ++ map encoding is) after short (omega (arith, n, m, small)) (let z : length (before ++ map encoding is) + length x.code + far ≡ length before + length (is ++ x.code) + far = omega (arith, n, m) in ap (λ y. y % 2 ^ 16) z ∙ aim)
         ∙ sym (over (f far))
 
-joins : (x y : Unpatched) (f g : ℕ → List Inst) → AimsAt x f → AimsAt y g → AimsAt (joined_unpatched x y) (λ far. f ((far + length (g far)) % 2 ^ 16) ++ g far)
+pub joins : (x y : Unpatched) (f g : ℕ → List Inst) → AimsAt x f → AimsAt y g → AimsAt (joined_unpatched x y) (λ far. f ((far + length (g far)) % 2 ^ 16) ++ g far)
 joins x y f g h k = record { same = same; within = within; law = law }
   where
     within : (at n : ℕ) → at + length (x.code ++ y.code) ≤ n → All (λ j. j < n) (map (λ j. at + j) (x.jumps ++ map (λ j. length x.code + j) y.jumps))
@@ -224,14 +224,14 @@ compared None o a b s r h i =
     after (operand_code a r) (λ far. operand_code b (r + 1) ++ compare_code o s far (operand_register a r) (operand_register b (r + 1)))
     (after (operand_code b (r + 1)) (λ far. compare_code o s far (operand_register a r) (operand_register b (r + 1))) (compare_ends o i s (operand_register a r) (operand_register b (r + 1))))
 
-compares : (im : ImmediateTest) (o : BinaryOp) (a b : Made) (s : Bool) (r : ℕ) → EndsTest im → IsCompared o → AimsAt (last_unpatched (compare_test im o a b s 0 r)) (λ far. compare_test im o a b s far r)
+pub compares : (im : ImmediateTest) (o : BinaryOp) (a b : Made) (s : Bool) (r : ℕ) → EndsTest im → IsCompared o → AimsAt (last_unpatched (compare_test im o a b s 0 r)) (λ far. compare_test im o a b s far r)
 compares im o a b s r h i = lasts (λ far. compare_test im o a b s far r) (compared im o a b s r h i)
 
-plains : (m : Made) (s : Bool) (r : ℕ) → AimsAt (last_unpatched (plain_test m s 0 r)) (λ far. plain_test m s far r)
+pub plains : (m : Made) (s : Bool) (r : ℕ) → AimsAt (last_unpatched (plain_test m s 0 r)) (λ far. plain_test m s far r)
 plains m s r = lasts (λ far. plain_test m s far r) (plain_ends m s r)
 
 -- code of a test that is passed over has a fixed distance
-over : (one : ℕ → List Inst) (y : Unpatched) (g : ℕ → List Inst) → AimsAt y g → AimsAt (behind_unpatched (one (length y.code % 2 ^ 16)) y) (λ far. one (length (g far) % 2 ^ 16) ++ g far)
+pub over : (one : ℕ → List Inst) (y : Unpatched) (g : ℕ → List Inst) → AimsAt y g → AimsAt (behind_unpatched (one (length y.code % 2 ^ 16)) y) (λ far. one (length (g far) % 2 ^ 16) ++ g far)
 over one y g h =
     let b = behinds (one (length y.code % 2 ^ 16)) y g h in
     record {

@@ -4,8 +4,8 @@ use Rattle.std.proofs.Common.{◌≡◌, ℕ, ◌+◌, ◌-◌, ◌%◌, ◌^◌
 use Rattle.mips_table.specs.declared.inst.Inst.{Inst}
 use Rattle.mips_table.specs.Encoding.{encoding}
 use Rattle.c0_tree.specs.declared.tree.BinaryOp.TheVariants.{Eq}
-use Rattle.c0_expr_code.specs.declared.sorted.Order.{Order}
-use Rattle.c0_expr_code.specs.declared.sorted.Order.TheVariants.{Less, LessOrEqual, Greater, GreaterOrEqual}
+use Rattle.c0_typed.specs.declared.sorted.Order.{Order}
+use Rattle.c0_typed.specs.declared.sorted.Order.TheVariants.{Less, LessOrEqual, Greater, GreaterOrEqual}
 use Rattle.c0_expr_code.specs.Sorted.{order_of}
 use Rattle.c0_tree.specs.Tree.{CExpr}
 use Rattle.c0_expr_code.specs.Scope.{Scope}
@@ -20,13 +20,13 @@ on_ok (Ok a) P Q f h = f h
 on_ok (Err a) P Q f h = h
 
 -- code that ends in a branch is some
-some : (f : ℕ → List Inst) → EndsIn f → 0 < length (f 0)
+pub some : (f : ℕ → List Inst) → EndsIn f → 0 < length (f 0)
 some f h = let e = ap length (h.is 0) ∙ length-append h.before (h.branch 0 ∷ []) in omega (arith, e)
 
 pub some_bool : (sc : Scope) (e : CExpr) (s : Bool) (r : ℕ) → 0 < length (bool_code sc e s r)
 some_bool sc e s r = some (λ far. plain_test (made sc e) s far r) (plain_ends (made sc e) s r)
 
-compared_order : (o : Order) → IsCompared (order_of o)
+pub compared_order : (o : Order) → IsCompared (order_of o)
 compared_order Less = lt
 compared_order LessOrEqual = le
 compared_order Greater = gt
@@ -41,7 +41,7 @@ pub some_equality : (sc : Scope) (a b : CExpr) (s : Bool) (r : ℕ) → 0 < leng
 some_equality sc a b s r = some (λ far. compare_test None Eq (made sc a) (made sc b) s far r) (compared None Eq (made sc a) (made sc b) s r tt eq)
 
 -- so many words stand then
-count : (old new : List ℕ) (is : List Inst) → new ≡ old ++ map encoding is → length new ≡ length old + length is
+pub count : (old new : List ℕ) (is : List Inst) → new ≡ old ++ map encoding is → length new ≡ length old + length is
 count old new is e = ap length e ∙ length-append old (map encoding is) ∙ ap (λ n. length old + n) (map_length encoding is)
 
 pub not_none : (old new seen : List ℕ) (is : List Inst) → 0 < length is → new ≡ old ++ map encoding is → seen ≡ new → 0 < length seen

@@ -15,3 +15,10 @@ pub mod Exits
 pub mod Scene
 pub mod Patch
 pub mod EmitTest
+pub mod Setting
+pub mod Node
+pub mod SettingIn
+pub mod TypedKnown
+pub mod EmitNode
+pub mod NodeJumps
+pub mod EmitNodeTest

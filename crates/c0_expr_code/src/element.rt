@@ -45,8 +45,8 @@ pub fn shift_of(words: u32) -> Option<u32>
     }
 }
 
-// Whether an index is below a length, into the scratch register.
-fn emit_bound(code: &mut Vec<u32>, index: u32, count: u32) -> Result<(), AllocError>
+/// Appends whether an index is below a length, into the scratch register.
+pub fn emit_bound(code: &mut Vec<u32>, index: u32, count: u32) -> Result<(), AllocError>
     requires { index < 32 }
     ensures { Appends code.old.items code.new.items (bound_code index count) result }
 {
@@ -71,8 +71,8 @@ fn emit_bound(code: &mut Vec<u32>, index: u32, count: u32) -> Result<(), AllocEr
     )
 }
 
-// The bytes before the element of an index, into the scratch register.
-fn emit_scaled(code: &mut Vec<u32>, index: u32, elements: Elements) -> Result<(), AllocError>
+/// Appends the bytes before the element of an index, into the scratch register.
+pub fn emit_scaled(code: &mut Vec<u32>, index: u32, elements: Elements) -> Result<(), AllocError>
     requires index { index < 32 }
     requires shift { IfSome elements.shift (λ by. by < 32) }
     ensures { Appends code.old.items code.new.items (scaled_by elements index) result }

@@ -442,8 +442,8 @@ fn emit_addition(
     emit_both_sides(scene, Plain::Sum, left, right, target, free, code)
 }
 
-// Whether a known word is other than 0.
-fn is_sure(known: Option<u32>) -> bool
+/// Whether a known word is other than 0.
+pub fn is_sure(known: Option<u32>) -> bool
     ensures { result ≡ spec.is_never_zero known }
 {
     match known {
@@ -476,8 +476,8 @@ fn emit_quotient(
     emit_division(code, scene, is_quotient, sure, target, first, second)
 }
 
-// The branch over the right side of `||`, or else of `&&`, which leads nowhere yet.
-fn skip(is_or: bool, register: u32) -> Inst
+/// The branch over the right side of `||`, or else of `&&`, which leads nowhere yet.
+pub fn skip(is_or: bool, register: u32) -> Inst
     requires { register < 32 }
     ensures value { result ≡ logic_skip is_or register 0 }
     ensures range { InRange result }
@@ -497,8 +497,8 @@ fn skip(is_or: bool, register: u32) -> Inst
     }
 }
 
-// Appends a copy of a register, unless it is that register.
-fn emit_to(code: &mut Vec<u32>, target: u32, source: u32) -> Result<(), AllocError>
+/// Appends a copy of a register, unless it is that register.
+pub fn emit_to(code: &mut Vec<u32>, target: u32, source: u32) -> Result<(), AllocError>
     requires target { target < 32 }
     requires source { source < 32 }
     ensures { Appends code.old.items code.new.items (to_code target source) result }

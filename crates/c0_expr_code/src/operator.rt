@@ -332,8 +332,8 @@ fn emit_divisor(
     }
 }
 
-// What is taken of a division.
-fn taken(is_quotient: bool, target: u32) -> Inst
+/// What is taken of a division.
+pub fn taken(is_quotient: bool, target: u32) -> Inst
     requires { target < 32 }
     ensures value { result ≡ taken_inst is_quotient target }
     ensures range { InRange result }

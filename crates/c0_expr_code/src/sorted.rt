@@ -4,36 +4,7 @@ ghost use Rattle.std.specs.Prelude.{◌≡◌};
 ghost use Rattle.c0_expr_code.specs.Sorted.{operator_of};
 
 use c0_tree::BinaryOp;
-
-/// An order.
-#[derive(Clone, Copy, Debug)]
-pub enum Order {
-    /// `<`.
-    Less,
-    /// `<=`.
-    LessOrEqual,
-    /// `>`.
-    Greater,
-    /// `>=`.
-    GreaterOrEqual,
-}
-
-/// An operator whose code is instructions on two registers.
-#[derive(Clone, Copy, Debug)]
-pub enum Plain {
-    /// `+`.
-    Sum,
-    /// `-`.
-    Difference,
-    /// `*`.
-    Product,
-    /// `<`, `<=`, `>` or `>=`.
-    Order(Order),
-    /// `==`.
-    Equal,
-    /// `!=`.
-    Different,
-}
+pub use c0_typed::{Order, Plain};
 
 /// An operator.
 #[derive(Clone, Copy, Debug)]

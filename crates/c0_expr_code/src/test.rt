@@ -27,8 +27,8 @@ use masm::registers::SCRATCH;
 use mips_table::Inst;
 use std::alloc::{AllocError, Global};
 
-// The branch to where two registers are equal, or where they differ; it leads nowhere yet.
-fn branch(is_equal: bool, left: u32, right: u32) -> Inst
+/// The branch to where two registers are equal, or where they differ; it leads nowhere yet.
+pub fn branch(is_equal: bool, left: u32, right: u32) -> Inst
     requires left { left < 32 }
     requires right { right < 32 }
     ensures value { result ≡ branch_code is_equal left right 0 }
@@ -102,8 +102,8 @@ fn emit_less_test(
     emit(code, branch(is_not, SCRATCH, 0))
 }
 
-// Appends an order of two registers as a test.
-fn emit_comparison(
+/// Appends an order of two registers as a test.
+pub fn emit_comparison(
     code: &mut Vec<u32>,
     order: Order,
     wanted: bool,
@@ -136,8 +136,8 @@ fn emit_below_test(
     emit(code, branch(!wanted, SCRATCH, 0))
 }
 
-// Whether an order has a test with room for a constant on its right side.
-fn tests_constant(order: Order, word: u32) -> bool
+/// Whether an order has a test with room for a constant on its right side.
+pub fn tests_constant(order: Order, word: u32) -> bool
     ensures { result ≡ is_test_immediate (immediate_test (order_of order) word) }
 {
     match order {
@@ -170,8 +170,8 @@ fn emit_higher(code: &mut Vec<u32>, wanted: bool, left: u32, word: u32) -> Resul
     emit_below_test(code, !wanted, left, word.wrapping_add(1))
 }
 
-// Appends the test of a register against a constant that its operator has room for.
-fn emit_constant_test(
+/// Appends the test of a register against a constant that its operator has room for.
+pub fn emit_constant_test(
     code: &mut Vec<u32>,
     order: Order,
     wanted: bool,
@@ -190,8 +190,8 @@ fn emit_constant_test(
     }
 }
 
-// Notes the place of the last word.
-fn note_last(code: &[u32], jumps: &mut Vec<usize>) -> Result<(), AllocError>
+/// Notes the place of the last word.
+pub fn note_last(code: &[u32], jumps: &mut Vec<usize>) -> Result<(), AllocError>
     requires { 0 < length code.now }
     ensures { OnOk result (jumps.new.items ≡ jumps.old.items ++ (length code.now - 1) ∷ []) }
 {

@@ -37,3 +37,4 @@ pub mod Stores
 pub mod Variables
 pub mod RunStretches
 pub mod StepCosts
+pub mod StatementsAreMade

@@ -11,3 +11,5 @@ pub mod Rows
 pub mod Setup
 pub mod Standing
 pub mod Zeros
+pub mod TypedCode
+pub mod TypedLaws

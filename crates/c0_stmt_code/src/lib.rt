@@ -11,6 +11,7 @@ mod prologue;
 mod sequence;
 pub mod sizes;
 mod statement;
+pub mod typed_laws;
 
 pub use function::emit_function;
 pub use sequence::emit_statements;

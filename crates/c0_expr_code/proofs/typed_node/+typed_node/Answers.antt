@@ -1,0 +1,27 @@
+-- An operator on two registers is no place; and the branch over a right side.
+use Rattle.std.proofs.Common.{◌≡◌, ◌++◌, map, length, sym, ap, ◌∙◌, arith}
+use Rattle.std.proofs.lemmas.List.{append-nil, length-map}
+use Rattle.mips_table.specs.Encoding.{encoding}
+use Rattle.c0_expr_code.specs.Code.{AddressingMode}
+use Rattle.c0_expr_code.specs.SettingIn.{node_in, setting_in}
+use Rattle.c0_expr_code.proofs.Patched.{patched}
+use Rattle.c0_expr_code.proofs.TypedKnown.{plain_address}
+use Rattle.c0_expr_code.proofs.typed_node.+typed_node.Goals as goal
+
+pub emit_place_node-returns-in-Plain-clause-code : goal.emit_place_node-returns-in-Plain-clause-code
+emit_place_node-returns-in-Plain-clause-code t c =
+    let e = plain_address (setting_in c.args.setting.now) c.args.expr.now _ _ _ c.args.free c.in-Plain.is in
+    sym (append-nil c.args.code.now.items) ∙ sym (ap (λ (x : AddressingMode). c.args.code.now.items ++ map encoding x.code) e)
+
+pub emit_place_node-returns-in-Plain-clause-place : goal.emit_place_node-returns-in-Plain-clause-place
+emit_place_node-returns-in-Plain-clause-place t c =
+    let e = plain_address (setting_in c.args.setting.now) c.args.expr.now _ _ _ c.args.free c.in-Plain.is in
+    (c.none-in-Plain.ensures.base ∙ sym (ap (λ (x : AddressingMode). x.base) e), c.none-in-Plain.ensures.displacement ∙ sym (ap (λ (x : AddressingMode). x.displacement) e))
+
+pub emit_right-returns : goal.emit_right-returns
+emit_right-returns t c =
+    let code = (node_in c.args.setting.now c.args.right.now).value c.args.free c.args.free in
+    let at : c.len-at.result ≡ length c.args.code.now.items = omega (arith, c.len-at.ensures) in
+    let to : c.len-end.result ≡ length c.emit_value_node.new.code.items = omega (arith, c.len-end.ensures) in
+    patched c.args.is_or c.args.free c.args.code.now.items (map encoding code) c.emit.new.code.items c.emit_value_node.new.code.items c.patch.new.code.items c.len-at.result c.len-end.result
+    (encoding c.skip.result) (length code) (ap encoding c.skip.ensures.value) c.in_ok-emit.ensures.appended c.in_ok-emit_value_node.ensures at to c.patch.ensures (sym (length-map code encoding))

@@ -1,0 +1,18 @@
+-- The setting that the emitters are lent, and the code of a typed tree in it.
+use Rattle.std.specs.Prelude.{◌/◌, slice_index}
+use Rattle.c0_typed.specs.declared.tree.TypedExpr.{TypedExpr}
+use Rattle.c0_typed.specs.View.{typed_expr_view}
+use Rattle.c0_expr_code.specs.declared.setting.CodeSetting.{CodeSetting}
+use Rattle.c0_expr_code.specs.Code.{Made}
+use Rattle.c0_expr_code.specs.Exits.{exits_of}
+use Rattle.c0_expr_code.specs.Node.{node_made}
+use Rattle.c0_expr_code.specs.Scope.{exit_number}
+use Rattle.c0_expr_code.specs.Setting.{Setting}
+
+-- the setting
+abbrev pub setting_in : CodeSetting → Setting
+setting_in s = record { in_registers = s.in_registers; frame = s.frame; exit = λ fault. slice_index (exits_of s.exits) (exit_number fault) / 4 }
+
+-- the code, place and constant of a typed expression
+abbrev pub node_in : CodeSetting → TypedExpr → Made
+node_in s e = node_made (setting_in s) (typed_expr_view e)

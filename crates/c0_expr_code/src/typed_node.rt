@@ -1,0 +1,452 @@
+// The code of typed expressions. Where memory is wanting, a part of an expression's code may stand behind what stood before.
+
+ghost use Rattle.std.specs.Prelude.{◌≡◌, ◌+◌, ◌≤◌, ◌<◌, ◌∷◌, [], true, IfOk};
+ghost use Rattle.mips_table.specs.declared.inst.Inst.TheVariants.{Subu, Xori};
+ghost use Rattle.c0_typed.specs.declared.sorted.Plain.TheVariants.{Sum};
+ghost use Rattle.c0_typed.specs.Size.{typed_need};
+ghost use Rattle.c0_typed.specs.Sorted.{plain_of};
+ghost use Rattle.c0_typed.specs.View.{typed_expr_view};
+ghost use Rattle.c0_expr_code.specs.Code.{immediate, access_code, one_code, operand_code, operand_register};
+ghost use Rattle.c0_expr_code.specs.Emit.{Appends, IsSameAddress, access_inst, is_immediate, right_code};
+ghost use Rattle.c0_expr_code.specs.EmitNode.{held_node, logic_nodes, plain_nodes, quotient_nodes, side_node, sides_nodes, tested_node};
+ghost use Rattle.c0_expr_code.specs.Node.{plain_node, target_place};
+ghost use Rattle.c0_expr_code.specs.SettingIn.{node_in, setting_in};
+
+use crate::address::{Access, Address, emit_access};
+use crate::constant::emit_constant;
+use crate::element::emit_guard;
+use crate::element_node::emit_element_node;
+use crate::node::{emit_to, is_sure, skip};
+use crate::operator::{emit_operator, emit_with_constant, takes_constant};
+use crate::operator_node::emit_quotient_of;
+use crate::patching::patch;
+use crate::setting::CodeSetting;
+use crate::typed_known::{known_word, local_address, register_standing};
+use crate::word::emit;
+use c0_typed::{Elements, Plain, TypedExpr};
+use masm::registers::GLOBALS;
+use mips_table::Inst;
+use std::alloc::AllocError;
+
+/// Appends the code of an operand, with free registers from `free` on, and answers the register where it stands.
+#[cycle(typed_node)]
+pub fn emit_operand_node(
+    setting: &CodeSetting,
+    expr: &TypedExpr,
+    free: u32,
+    code: &mut Vec<u32>,
+) -> Result<u32, AllocError>
+    requires { free + typed_need (typed_expr_view expr.now) ≤ 20 }
+    ensures code { Appends code.old.items code.new.items (operand_code (node_in setting.now expr.now) free) result }
+    ensures register { IfOk result (λ q. q ≡ operand_register (node_in setting.now expr.now) free) }
+    ensures small { IfOk result (λ q. q < 32) }
+{
+    if let Some(register) = register_standing(setting, expr) {
+        return Ok(register);
+    }
+    emit_value_node(setting, expr, free, free, code)?;
+    Ok(free)
+}
+
+/// Appends the code of a place, with free registers from `free` on, and answers where the place is then; no code and no place where the
+/// expression is none.
+#[cycle(typed_node)]
+pub fn emit_place_node(
+    setting: &CodeSetting,
+    expr: &TypedExpr,
+    free: u32,
+    code: &mut Vec<u32>,
+) -> Result<Address, AllocError>
+    requires { free + typed_need (typed_expr_view expr.now) ≤ 20 }
+    ensures code { Appends code.old.items code.new.items ((node_in setting.now expr.now).place free).code result }
+    ensures place { IfOk result (λ x. IsSameAddress x ((node_in setting.now expr.now).place free)) }
+    ensures small { IfOk result (λ x. x.base < 32) }
+{
+    match expr {
+        TypedExpr::Global(bytes) => Ok(Address {
+            base: GLOBALS,
+            displacement: *bytes,
+        }),
+        TypedExpr::Local(_, words) => Ok(local_address(setting, *words)),
+        TypedExpr::Part(place, bytes) => {
+            let address = emit_place_node(setting, place, free, code)?;
+            Ok(address.moved(*bytes))
+        }
+        TypedExpr::Element(place, index, elements) => {
+            emit_element_of(setting, place, index, *elements, free, code)
+        }
+        TypedExpr::Target(pointer) => emit_target_node(setting, pointer, free, code),
+        TypedExpr::Constant(_) => Ok(Address::none()),
+        TypedExpr::Address(_) => Ok(Address::none()),
+        TypedExpr::Negative(_) => Ok(Address::none()),
+        TypedExpr::Negation(_) => Ok(Address::none()),
+        TypedExpr::Plain(_, _, _) => Ok(Address::none()),
+        TypedExpr::Quotient(_, _) => Ok(Address::none()),
+        TypedExpr::Remainder(_, _) => Ok(Address::none()),
+        TypedExpr::Both(_, _) => Ok(Address::none()),
+        TypedExpr::Either(_, _) => Ok(Address::none()),
+    }
+}
+
+// Appends the code of what a pointer points to.
+#[cycle(typed_node)]
+fn emit_target_node(
+    setting: &CodeSetting,
+    pointer: &TypedExpr,
+    free: u32,
+    code: &mut Vec<u32>,
+) -> Result<Address, AllocError>
+    requires { free + typed_need (typed_expr_view pointer.now) ≤ 20 }
+    ensures code { Appends code.old.items code.new.items (target_place (setting_in setting.now) (node_in setting.now pointer.now) free).code result }
+    ensures place { IfOk result (λ x. IsSameAddress x (target_place (setting_in setting.now) (node_in setting.now pointer.now) free)) }
+    ensures small { IfOk result (λ x. x.base < 32) }
+{
+    let base = emit_operand_node(setting, pointer, free, code)?;
+    emit_guard(code, base, setting.exits.null_use)?;
+    Ok(Address {
+        base,
+        displacement: 0,
+    })
+}
+
+// Appends the code of an element whose index is tested.
+#[cycle(typed_node)]
+fn emit_element_of(
+    setting: &CodeSetting,
+    place: &TypedExpr,
+    index: &TypedExpr,
+    elements: Elements,
+    free: u32,
+    code: &mut Vec<u32>,
+) -> Result<Address, AllocError>
+    requires first { free + typed_need (typed_expr_view place.now) ≤ 20 }
+    requires second { free + 1 + typed_need (typed_expr_view index.now) ≤ 20 }
+    ensures code { Appends code.old.items code.new.items (tested_node setting.now elements place.now index.now free).code result }
+    ensures place { IfOk result (λ x. IsSameAddress x (tested_node setting.now elements place.now index.now free)) }
+    ensures small { IfOk result (λ x. x.base < 32) }
+{
+    let address = emit_place_node(setting, place, free, code)?;
+    let register = emit_operand_node(setting, index, free + 1, code)?;
+    emit_element_node(code, setting, free, address.base, register, elements)?;
+    Ok(Address {
+        base: free,
+        displacement: address.displacement,
+    })
+}
+
+/// Appends the code of a value, into register `target`, with free registers from `free` on.
+#[cycle(typed_node)]
+pub fn emit_value_node(
+    setting: &CodeSetting,
+    expr: &TypedExpr,
+    target: u32,
+    free: u32,
+    code: &mut Vec<u32>,
+) -> Result<(), AllocError>
+    requires room { free + typed_need (typed_expr_view expr.now) ≤ 20 }
+    requires target { target < 32 }
+    ensures { Appends code.old.items code.new.items ((node_in setting.now expr.now).value target free) result }
+{
+    match expr {
+        TypedExpr::Global(_) => emit_held(setting, expr, Access::Load, target, free, code),
+        TypedExpr::Local(_, _) => emit_local(setting, expr, target, free, code),
+        TypedExpr::Part(_, _) => emit_held(setting, expr, Access::Load, target, free, code),
+        TypedExpr::Element(_, _, _) => emit_held(setting, expr, Access::Load, target, free, code),
+        TypedExpr::Target(_) => emit_held(setting, expr, Access::Load, target, free, code),
+        TypedExpr::Constant(word) => emit_constant(code, target, *word),
+        TypedExpr::Address(place) => {
+            emit_held(setting, place, Access::Address, target, free, code)
+        }
+        TypedExpr::Negative(operand) => emit_negative(setting, operand, target, free, code),
+        TypedExpr::Negation(operand) => emit_negation(setting, operand, target, free, code),
+        TypedExpr::Plain(op, left, right) => {
+            emit_plain(setting, *op, left, right, target, free, code)
+        }
+        TypedExpr::Quotient(left, right) => {
+            emit_quotient(setting, true, left, right, target, free, code)
+        }
+        TypedExpr::Remainder(left, right) => {
+            emit_quotient(setting, false, left, right, target, free, code)
+        }
+        TypedExpr::Both(left, right) => {
+            emit_logic(setting, false, left, right, target, free, code)
+        }
+        TypedExpr::Either(left, right) => {
+            emit_logic(setting, true, left, right, target, free, code)
+        }
+    }
+}
+
+// Appends the code of a place, and then an access to it.
+#[cycle(typed_node)]
+fn emit_held(
+    setting: &CodeSetting,
+    expr: &TypedExpr,
+    access: Access,
+    target: u32,
+    free: u32,
+    code: &mut Vec<u32>,
+) -> Result<(), AllocError>
+    requires room { free + typed_need (typed_expr_view expr.now) ≤ 20 }
+    requires target { target < 32 }
+    ensures { Appends code.old.items code.new.items (access_code (access_inst access target) free ((node_in setting.now expr.now).place free)) result }
+{
+    let address = emit_place_node(setting, expr, free, code)?;
+    emit_access(code, access, target, free, address)
+}
+
+// Appends the code of a parameter or local as value.
+#[cycle(typed_node)]
+fn emit_local(
+    setting: &CodeSetting,
+    expr: &TypedExpr,
+    target: u32,
+    free: u32,
+    code: &mut Vec<u32>,
+) -> Result<(), AllocError>
+    requires room { free + typed_need (typed_expr_view expr.now) ≤ 20 }
+    requires target { target < 32 }
+    ensures { Appends code.old.items code.new.items (held_node setting.now expr.now target free) result }
+{
+    if let Some(source) = register_standing(setting, expr) {
+        return emit(
+            code,
+            Inst::Addu {
+                rd: target,
+                rs: source,
+                rt: 0,
+            },
+        );
+    }
+    emit_held(setting, expr, Access::Load, target, free, code)
+}
+
+// Appends the code of `-`.
+#[cycle(typed_node)]
+fn emit_negative(
+    setting: &CodeSetting,
+    operand: &TypedExpr,
+    target: u32,
+    free: u32,
+    code: &mut Vec<u32>,
+) -> Result<(), AllocError>
+    requires room { free + typed_need (typed_expr_view operand.now) ≤ 20 }
+    requires target { target < 32 }
+    ensures { Appends code.old.items code.new.items (one_code (λ q. Subu target 0 q ∷ []) (node_in setting.now operand.now) free) result }
+{
+    let source = emit_operand_node(setting, operand, free, code)?;
+    emit(
+        code,
+        Inst::Subu {
+            rd: target,
+            rs: 0,
+            rt: source,
+        },
+    )
+}
+
+// Appends the code of `!`.
+#[cycle(typed_node)]
+fn emit_negation(
+    setting: &CodeSetting,
+    operand: &TypedExpr,
+    target: u32,
+    free: u32,
+    code: &mut Vec<u32>,
+) -> Result<(), AllocError>
+    requires room { free + typed_need (typed_expr_view operand.now) ≤ 20 }
+    requires target { target < 32 }
+    ensures { Appends code.old.items code.new.items (one_code (λ q. Xori target q 1 ∷ []) (node_in setting.now operand.now) free) result }
+{
+    let source = emit_operand_node(setting, operand, free, code)?;
+    emit(
+        code,
+        Inst::Xori {
+            rt: target,
+            rs: source,
+            imm: 1,
+        },
+    )
+}
+
+// Appends the code of an operand, and of an operator between it and a constant.
+#[cycle(typed_node)]
+fn emit_constant_side(
+    setting: &CodeSetting,
+    op: Plain,
+    side: &TypedExpr,
+    word: u32,
+    target: u32,
+    free: u32,
+    code: &mut Vec<u32>,
+) -> Result<(), AllocError>
+    requires room { free + typed_need (typed_expr_view side.now) ≤ 20 }
+    requires target { target < 32 }
+    requires takes { is_immediate (immediate (plain_of op) word) ≡ true }
+    ensures { Appends code.old.items code.new.items (side_node setting.now (immediate (plain_of op) word) side.now target free) result }
+{
+    let source = emit_operand_node(setting, side, free, code)?;
+    emit_with_constant(code, op, target, source, word)
+}
+
+// Appends the code of both operands, and of an operator between them.
+#[cycle(typed_node)]
+fn emit_both_sides(
+    setting: &CodeSetting,
+    op: Plain,
+    left: &TypedExpr,
+    right: &TypedExpr,
+    target: u32,
+    free: u32,
+    code: &mut Vec<u32>,
+) -> Result<(), AllocError>
+    requires first { free + typed_need (typed_expr_view left.now) ≤ 20 }
+    requires second { free + 1 + typed_need (typed_expr_view right.now) ≤ 20 }
+    requires target { target < 32 }
+    ensures { Appends code.old.items code.new.items (sides_nodes setting.now (plain_of op) left.now right.now target free) result }
+{
+    let first = emit_operand_node(setting, left, free, code)?;
+    let second = emit_operand_node(setting, right, free + 1, code)?;
+    emit_operator(code, op, target, first, second)
+}
+
+// Appends the code of an operator whose right side may be a constant.
+#[cycle(typed_node)]
+fn emit_right_constant(
+    setting: &CodeSetting,
+    op: Plain,
+    left: &TypedExpr,
+    right: &TypedExpr,
+    target: u32,
+    free: u32,
+    code: &mut Vec<u32>,
+) -> Result<(), AllocError>
+    requires first { free + typed_need (typed_expr_view left.now) ≤ 20 }
+    requires second { free + 1 + typed_need (typed_expr_view right.now) ≤ 20 }
+    requires target { target < 32 }
+    ensures { Appends code.old.items code.new.items ((plain_nodes setting.now (plain_of op) left.now right.now).value target free) result }
+{
+    if let Some(word) = known_word(right) {
+        if takes_constant(op, word) {
+            return emit_constant_side(setting, op, left, word, target, free, code);
+        }
+    }
+    emit_both_sides(setting, op, left, right, target, free, code)
+}
+
+// Appends the code of a sum, of which either side may be a constant.
+#[cycle(typed_node)]
+fn emit_addition(
+    setting: &CodeSetting,
+    left: &TypedExpr,
+    right: &TypedExpr,
+    target: u32,
+    free: u32,
+    code: &mut Vec<u32>,
+) -> Result<(), AllocError>
+    requires first { free + typed_need (typed_expr_view left.now) ≤ 20 }
+    requires second { free + 1 + typed_need (typed_expr_view right.now) ≤ 20 }
+    requires target { target < 32 }
+    ensures { Appends code.old.items code.new.items ((plain_node Sum (node_in setting.now left.now) (node_in setting.now right.now)).value target free) result }
+{
+    if let Some(word) = known_word(right) {
+        if takes_constant(Plain::Sum, word) {
+            return emit_constant_side(setting, Plain::Sum, left, word, target, free, code);
+        }
+    }
+    if let Some(word) = known_word(left) {
+        if takes_constant(Plain::Sum, word) {
+            return emit_constant_side(setting, Plain::Sum, right, word, target, free, code);
+        }
+    }
+    emit_both_sides(setting, Plain::Sum, left, right, target, free, code)
+}
+
+// Appends the code of an operator on two registers.
+#[cycle(typed_node)]
+fn emit_plain(
+    setting: &CodeSetting,
+    op: Plain,
+    left: &TypedExpr,
+    right: &TypedExpr,
+    target: u32,
+    free: u32,
+    code: &mut Vec<u32>,
+) -> Result<(), AllocError>
+    requires first { free + typed_need (typed_expr_view left.now) ≤ 20 }
+    requires second { free + 1 + typed_need (typed_expr_view right.now) ≤ 20 }
+    requires target { target < 32 }
+    ensures { Appends code.old.items code.new.items ((plain_node op (node_in setting.now left.now) (node_in setting.now right.now)).value target free) result }
+{
+    match op {
+        Plain::Sum => emit_addition(setting, left, right, target, free, code),
+        Plain::Difference => emit_right_constant(setting, op, left, right, target, free, code),
+        Plain::Product => emit_right_constant(setting, op, left, right, target, free, code),
+        Plain::Order(_) => emit_right_constant(setting, op, left, right, target, free, code),
+        Plain::Equal => emit_right_constant(setting, op, left, right, target, free, code),
+        Plain::Different => emit_right_constant(setting, op, left, right, target, free, code),
+    }
+}
+
+// Appends the code of `/`, or else of `%`.
+#[cycle(typed_node)]
+fn emit_quotient(
+    setting: &CodeSetting,
+    is_quotient: bool,
+    left: &TypedExpr,
+    right: &TypedExpr,
+    target: u32,
+    free: u32,
+    code: &mut Vec<u32>,
+) -> Result<(), AllocError>
+    requires first { free + typed_need (typed_expr_view left.now) ≤ 20 }
+    requires second { free + 1 + typed_need (typed_expr_view right.now) ≤ 20 }
+    requires target { target < 32 }
+    ensures { Appends code.old.items code.new.items (quotient_nodes setting.now is_quotient left.now right.now target free) result }
+{
+    let first = emit_operand_node(setting, left, free, code)?;
+    let second = emit_operand_node(setting, right, free + 1, code)?;
+    let sure = is_sure(known_word(right));
+    emit_quotient_of(code, setting, is_quotient, sure, target, first, second)
+}
+
+// Appends the branch over the right side of `||`, or else of `&&`, and that side; the branch gets its distance when the side is there.
+#[cycle(typed_node)]
+fn emit_right(
+    setting: &CodeSetting,
+    is_or: bool,
+    right: &TypedExpr,
+    free: u32,
+    code: &mut Vec<u32>,
+) -> Result<(), AllocError>
+    requires { free + typed_need (typed_expr_view right.now) ≤ 20 }
+    ensures { Appends code.old.items code.new.items (right_code is_or free ((node_in setting.now right.now).value free free)) result }
+{
+    let at = code.len();
+    emit(code, skip(is_or, free))?;
+    emit_value_node(setting, right, free, free, code)?;
+    let end = code.len();
+    patch(code, at, end);
+    Ok(())
+}
+
+// Appends the code of `||`, or else of `&&`.
+#[cycle(typed_node)]
+fn emit_logic(
+    setting: &CodeSetting,
+    is_or: bool,
+    left: &TypedExpr,
+    right: &TypedExpr,
+    target: u32,
+    free: u32,
+    code: &mut Vec<u32>,
+) -> Result<(), AllocError>
+    requires first { free + typed_need (typed_expr_view left.now) ≤ 20 }
+    requires second { free + typed_need (typed_expr_view right.now) ≤ 20 }
+    requires target { target < 32 }
+    ensures { Appends code.old.items code.new.items (logic_nodes setting.now is_or left.now right.now target free) result }
+{
+    emit_value_node(setting, left, free, free, code)?;
+    emit_right(setting, is_or, right, free, code)?;
+    emit_to(code, target, free)
+}

@@ -1,0 +1,7 @@
+mod Structs
+mod Trees
+mod Functions
+mod SizedBodies
+mod Numbers
+mod BareTrees
+mod Needs

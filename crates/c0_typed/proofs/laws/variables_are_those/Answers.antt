@@ -1,0 +1,5 @@
+use Rattle.c0_typed.proofs.Numbers.{variables_those}
+use Rattle.c0_typed.proofs.laws.variables_are_those.Goals as goal
+
+pub returns : goal.returns
+returns c = variables_those c.offsets_are_those.ensures

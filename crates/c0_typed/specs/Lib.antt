@@ -1,0 +1,11 @@
+pub mod Tree
+pub mod View
+pub mod Leaf
+pub mod Typed
+pub mod Seen
+pub mod SeenEnv
+pub mod Sized
+pub mod Sorted
+pub mod Laws
+pub mod Rows
+pub mod Size
