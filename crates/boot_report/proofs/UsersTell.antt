@@ -16,8 +16,8 @@ use Rattle.cvm_model.specs.Primitives.{user_of, pages_of, no_flat}
 use Rattle.cvm_model.specs.Cvm.{Status}
 use Rattle.cvm_model.specs.Paged.{paged_of, pages_by}
 use Rattle.cvm_model.specs.Stands.{Site, RunningRelation, IsUser, UserFits, runs_user}
-use Rattle.cvm_model.specs.Text.{hex_row, nonzero_row, regs_text, memory_text, user_text, users_text, log_text}
-use Rattle.boot_report.specs.Texts.{texts, register_row, memory_row, register_rows, processor_rows, user_head, log_rows, shown_cpu, pages_in, EntriesFit}
+use Rattle.cvm_model.specs.Text.{hex_row, nonzero_row, regs_text, memory_text, user_head, user_text, users_text, log_text}
+use Rattle.boot_report.specs.Texts.{texts, register_row, memory_row, register_rows, processor_rows, log_rows, shown_cpu, pages_in, EntriesFit}
 use Rattle.boot_report.proofs.ReportScripts.{pages_rows, speaks_scripts, shown_is, user_spoken}
 use Rattle.boot_report.specs.Resident.{page_of_word}
 use Rattle.boot_report.specs.Scripts.{user_script}

@@ -11,7 +11,7 @@ use Rattle.cvm_model.specs.Paged.{paged_of}
 use Rattle.cvm_model.specs.Stands.{block_cpu}
 use Rattle.mips_machine.specs.Machine.{Held}
 use Rattle.cvm_model.specs.declared.kernel_fault.KernelFault.{KernelFault}
-use Rattle.cvm_model.specs.Text.{fault_name, hex_row, nonzero_row}
+use Rattle.cvm_model.specs.Text.{fault_name, hex_row, nonzero_row, processor_text}
 
 -- the texts of the numbers below n, in order
 unfoldable pub texts : (ℕ → List ℕ) → ℕ → List ℕ
@@ -58,14 +58,9 @@ shown_cpu held runs u = if runs then held.hardware.cpu else block_cpu held.hardw
 abbrev pub pages_in : Map → List ℕ → ℕ → ℕ
 pages_in m memory u = min (slice_index memory (block_at u + BLOCK_SIZE)) m.params.pages
 
--- the first row of a user
-abbrev pub user_head : ℕ → ℕ → ℕ → List ℕ
-user_head u pages pc = hex_row (codes "user " ++ decimal u ++ codes " pages " ++ decimal pages ++ codes " pc") pc
-
 -- the rows of a user's processor
 abbrev pub processor_rows : ℕ → ℕ → Cpu → List ℕ
-processor_rows u pages cpu =
-    user_head u pages cpu.pc ++ register_rows cpu 31 ++ nonzero_row (codes "hi") cpu.hi ++ nonzero_row (codes "lo") cpu.lo
+processor_rows u pages cpu = processor_text u pages cpu (register_rows cpu 31)
 
 -- the rows of the words of the console's log
 abbrev pub log_rows : List ℕ → List ℕ

@@ -1,8 +1,8 @@
 // Single rows, which take no memory.
 ghost use Rattle.std.specs.Prelude.{◌≡◌, ◌++◌, ◌*◌, ◌<◌, ◌^◌, ◌==◌, if◌then◌else◌, [], codes, decimal};
 ghost use Rattle.cvm_text.specs.Hex.{hex8 as hex8_of};
-ghost use Rattle.cvm_model.specs.Text.{hex_row, nonzero_row};
-ghost use Rattle.boot_report.specs.Texts.{end_row, register_row, memory_row, user_head};
+ghost use Rattle.cvm_model.specs.Text.{hex_row, nonzero_row, user_head};
+ghost use Rattle.boot_report.specs.Texts.{end_row, register_row, memory_row};
 ghost use Rattle.cvm_outside.specs.Script.{Prints};
 
 use arrayvec::ArrayString;

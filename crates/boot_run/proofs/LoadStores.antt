@@ -2,21 +2,19 @@
 use Rattle.std.specs.Prelude.{nat_lt, slice_index, slice_set, not, ◌&&◌, if◌then◌else◌}
 use Rattle.std.specs.Option.{option_map}
 use Rattle.std.specs.List.{range_with_len}
-use Rattle.std.proofs.Common.{◌≡◌, ℕ, zero, suc, ◌+◌, ◌-◌, ◌*◌, ◌/◌, ◌<◌, ◌≤◌, Bool, true, false, cond, List, [], ◌∷◌, ◌++◌, map, length, Ok, Err, Some, refl, sym, ap, ap₂, ◌∙◌, ⊎_elim, arith, lt-ltb, le-ltb}
+use Rattle.std.proofs.Common.{◌≡◌, ℕ, zero, suc, ◌+◌, ◌-◌, ◌*◌, ◌/◌, ◌<◌, ◌≤◌, Bool, true, false, cond, List, [], ◌∷◌, ◌++◌, map, length, Ok, refl, sym, ap, ap₂, ◌∙◌, ⊎_elim, arith, lt-ltb, le-ltb}
 use Rattle.std.proofs.Math.Nat.{le-div_iff_mul-le}
 use Rattle.std.proofs.lemmas.Bool.{cases_lt, cond-true, cond-false}
-use Rattle.cvm_outside.specs.Causes.{Rose}
 use Rattle.cvm_outside.specs.Outside.{Outside, no_files, no_output, drive}
 use Rattle.cvm_outside.specs.declared.sectors.Sectors as sectors_of
-use Rattle.cvm_outside.specs.Script.{Call, Printed, Read, Wrote, Got, Stored, TheDisk, scripts, sectors_after}
-use Rattle.cvm_outside.proofs.Blame.{blame_one, store}
+use Rattle.cvm_outside.specs.Script.{Call, Printed, Read, Wrote, Got, Stored, scripts, sectors_after}
+use Rattle.cvm_outside.proofs.Blame.{store}
 use Rattle.cvm_outside.proofs.RowsPut.{scripts-none, scripts-suc}
 use Rattle.mips_table.specs.Device.{sector_of}
 use Rattle.page_model.specs.Paging.{Pages}
 use Rattle.cvm_model.specs.Cvm.{System}
 use Rattle.layer_contract.specs.Follows.{loaded, loaded_sector}
 use Rattle.boot_turns.specs.Rom.{page_of, rom_loaded, rom_sector, rom_sectors}
-use Rattle.boot_run.specs.declared.load.LoadFault.TheVariants.{Disk}
 use Rattle.boot_run.specs.Loading.{words_of_page}
 use Rattle.boot_run.specs.LoadedPages.{disk_pages, first_pages, rom_pages, user_pages}
 use Rattle.boot_run.specs.LoadScript.{load_script, page_write_script}
@@ -47,16 +45,13 @@ load_stores p (suc n) ss =
     ap (λ (l : List Call). sectors_after l ss) (scripts-suc (page_write_script p) n) ∙ stored-append (scripts (page_write_script p) n) (page_write_script p n) ss
     ∙ ap (sectors_after (page_write_script p n)) (load_stores p n ss) ∙ page_stores p n (pages_written p n ss)
 
--- A LOAD that was begun: where it is done the sectors are those that its script leaves, and else the count of faults rose
+-- A LOAD that is done: the sectors are those that its script leaves
 module _ {D : Type 0} (told : sectors_of.Ghosts D) (d d1 : D) (script : List Call) where
   abbrev seen : D → Outside
   seen disk = record { shelf = no_files; sink = no_output; disk = drive told disk }
 
   pub load_leaves : {T : Type 0} {r : T} → LoadCalls {T = T} told d d1 script (Ok r) → told.sectors d1 ≡ option_map (sectors_after script) (told.sectors d)
   load_leaves calls = store script (seen d) (seen d1) (calls.made refl no_files no_output)
-
-  pub load_fails : {T : Type 0} → LoadCalls {T = T} told d d1 script (Err Disk) → Rose (told.faults d) (told.faults d1)
-  load_fails calls = ((blame_one script (seen d) (seen d1) (Some TheDisk) (calls.made refl no_files no_output) TheDisk).rose refl).rose
 
 -- THE SECTORS OF THE START, of a system whose users have pages
 module _ (y : System) (some : 1 ≤ y.boot.params.pages) where

@@ -4,12 +4,11 @@ use Rattle.cvm_outside.specs.Outside.{no_files}
 use Rattle.cvm_outside.specs.Script.{Call, Printed, Read, Wrote, Got, Stored, WritesNoSector, blame}
 use Rattle.cvm_outside.specs.declared.sink.Sink as sink_of
 use Rattle.cvm_outside.specs.declared.sectors.Sectors as sectors_of
-use Rattle.cvm_outside.proofs.RowsPut.{unwritten, same_size}
+use Rattle.cvm_outside.proofs.RowsPut.{same_size}
 use Rattle.boot_turns.specs.declared.answers.RunFault.{RunFault}
-use Rattle.boot_turns.specs.LoopScripts.{AreOfRun}
+use Rattle.boot_turns.specs.LoopScripts.{AreOfRun, SomeMake}
 use Rattle.boot_turns.specs.RowScripts.{of_run}
 use Rattle.boot_turns.proofs.SomeCalls.{untold}
-use Rattle.boot_run.specs.RunCalls.{SomeRead}
 use Rattle.boot_run.specs.RunScript.{AreReads}
 use Rattle.boot_run.proofs.ScriptParts.{at}
 
@@ -32,7 +31,7 @@ reads_behind (Wrote sector words ∷ a) b h k = absurd h
 reads_behind (Got name ∷ a) b h k = absurd h
 reads_behind (Stored name bytes ∷ a) b h k = absurd h
 
--- they leave the disk's size and its sectors
+-- they write no sector
 pub reads_quietly : (a : List Call) → AreReads a → WritesNoSector a
 reads_quietly [] h = tt
 reads_quietly (Printed None ∷ a) h = reads_quietly a h
@@ -42,8 +41,6 @@ reads_quietly (Wrote sector words ∷ a) h = absurd h
 reads_quietly (Got name ∷ a) h = absurd h
 reads_quietly (Stored name bytes ∷ a) h = absurd h
 
-pub reads_leave : {O D T : Type 0} (text : sink_of.Ghosts O) (told : sectors_of.Ghosts D) (o o1 : O) (d d1 : D) (result : Result T RunFault) → SomeRead text told (o, d) (o1, d1) result → (told.size d1 ≡ told.size d) × (told.sectors d1 ≡ told.sectors d)
-reads_leave text told o o1 d d1 result (script, reads, made) = (
-  same_size script (at text told no_files o d) (at text told no_files o1 d1) (blame of_run result) (made no_files),
-  unwritten script (at text told no_files o d) (at text told no_files o1 d1) (blame of_run result) (reads_quietly script reads) (made no_files),
-)
+-- calls of a run leave the disk's size
+pub calls_keep_size : {O D T : Type 0} (text : sink_of.Ghosts O) (told : sectors_of.Ghosts D) (o o1 : O) (d d1 : D) (result : Result T RunFault) → SomeMake text told (o, d) (o1, d1) result → told.size d1 ≡ told.size d
+calls_keep_size text told o o1 d d1 result (script, are, made) = same_size script (at text told no_files o d) (at text told no_files o1 d1) (blame of_run result) (made no_files)

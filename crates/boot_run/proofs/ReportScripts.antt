@@ -12,8 +12,8 @@ use Rattle.page_model.specs.Paging.{shown_word}
 use Rattle.cvm_model.specs.Kernel.{Core}
 use Rattle.cvm_model.specs.Primitives.{user_of, pages_of}
 use Rattle.cvm_model.specs.Paged.{paged_of}
-use Rattle.cvm_model.specs.Text.{nonzero_row, memory_text}
-use Rattle.boot_report.specs.Texts.{texts, memory_row, processor_rows, page_text, user_head, EntriesFit}
+use Rattle.cvm_model.specs.Text.{nonzero_row, memory_text, user_head}
+use Rattle.boot_report.specs.Texts.{texts, memory_row, processor_rows, page_text, EntriesFit}
 use Rattle.boot_report.specs.Told.{UserIsTold}
 use Rattle.boot_report.specs.Resident.{page_reads}
 use Rattle.boot_report.specs.Scripts as reported

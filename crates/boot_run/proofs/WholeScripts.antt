@@ -51,7 +51,7 @@ by_disk load.Memory e = absurd (let h = e in cc)
 by_disk (load.NoSuchUser user users) e = absurd (let h = e in cc)
 
 -- a call that loads a run and makes it says of one that isn't loaded what the load does
-pub unloaded : {O D T R : Type 0} (told : sectors_of.Ghosts D) (b : Booted) (view : View) (loading : Load) (o : O) (d d1 : D) (f : LoadFault) → LoadFails b view loading.need (told.size d) (told.faults d) (told.faults d1) f → LoadCalls {T = T} told d d1 loading.script (Err f) →
+pub unloaded : {O D T R : Type 0} (told : sectors_of.Ghosts D) (b : Booted) (view : View) (loading : Load) (o : O) (d d1 : D) (f : LoadFault) → LoadFails b view loading.need (told.size d) f → LoadCalls {T = T} told d d1 loading.script (Err f) →
     LoadsRun {T = R} told b view loading (o, d) (o, d1) (Err f)
 unloaded told b view loading o d d1 f w calls = record { refused = w; loaded = tt; calls = record { made = calls.made; none = calls.none }; unprinted = refl }
 

@@ -1,12 +1,12 @@
 -- THE SCRIPTS before the first step and behind the last: the first row of a trace; the end and the report.
-use Rattle.std.specs.Prelude.{ℕ, ◌+◌, ◌*◌, List, [], ◌∷◌, ◌++◌, Some, codes, decimal, drop, take, length}
+use Rattle.std.specs.Prelude.{ℕ, ◌+◌, ◌*◌, List, [], ◌∷◌, ◌++◌, Some, codes, drop, take, length}
 use Rattle.mips_table.specs.Machine.{State}
 use Rattle.mips_table.specs.Flat.{Flat}
 use Rattle.layer_map.specs.Map.{Map}
 use Rattle.cvm_model.specs.Cvm.{System, Cvm, Status, Faulted, map_of}
 use Rattle.cvm_model.specs.Kernel.{JournalEntry, parts_of_value}
 use Rattle.cvm_model.specs.Primitives.{user_of, pages_of}
-use Rattle.cvm_model.specs.Text.{end_text, fault_name, globals_text, log_text, memory_text, hex_row, regs_text, nonzero_row, start_row, journal_rows, open_journal_rows}
+use Rattle.cvm_model.specs.Text.{end_text, fault_name, globals_text, log_text, memory_text, cpu_text, start_row, journal_rows, open_journal_rows}
 use Rattle.boot_turns.specs.declared.answers.View.{View}
 use Rattle.boot_turns.specs.declared.answers.View.TheVariants.{Boot, Trace}
 use Rattle.cvm_outside.specs.Script.{Call, Printed, scripts}
@@ -27,11 +27,6 @@ opening_script (Trace u) y = says (start_row u (first_user_machine y u))
 -- page p of user u is read where it is in no frame, and its rows are printed
 abbrev pub page_report_script : Map → State → (u : ℕ) → Flat → (p : ℕ) → List Call
 page_report_script m s u f p = page_reads m s (page_of m u p) ++ says (memory_text (1024 * p) (take 1024 (drop (1024 * p) f.words)))
-
--- the rows of a user's processor
-abbrev pub cpu_text : (u : ℕ) → Flat → List ℕ
-cpu_text u f = hex_row (codes "user " ++ decimal u ++ codes " pages " ++ decimal (pages_of f) ++ codes " pc") f.cpu.pc
-    ++ regs_text 1 (drop 1 f.cpu.regs) ++ nonzero_row (codes "hi") f.cpu.hi ++ nonzero_row (codes "lo") f.cpu.lo
 
 -- a user: the rows of its processor, and its pages
 abbrev pub user_report_script : Map → State → (u : ℕ) → Flat → List Call

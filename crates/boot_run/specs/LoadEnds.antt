@@ -1,7 +1,6 @@
 -- What contracts see of a loaded run, and why none is loaded.
 use Rattle.std.specs.Prelude.{◌≡◌, ℕ, ◌+◌, ◌*◌, ◌/◌, ◌<◌, ◌≤◌, ◌&&◌, Bool, true, nat_lt, Option, Some, None, List, length}
 use Rattle.std.specs.Option.{option_map}
-use Rattle.cvm_outside.specs.Causes.{Rose}
 use Rattle.mips_table.specs.Device.{Pending, Idle, Reading, Writing}
 use Rattle.mips_table.specs.Machine.{State}
 use Rattle.schedule_file.specs.Rows.{Rows}
@@ -30,12 +29,12 @@ pub record HasDiskRoom (b : Booted) (view : View) (need count : ℕ) : Type 0 wh
   pub user : SeesUser view (length b.users.items)
   pub room : need ≤ count
 
--- why a run that needs so many sectors is not loaded, over a disk of so many whose count of faults was and is this
-abbrev pub LoadFails : Booted → View → (need count before now : ℕ) → LoadFault → Type 0
-LoadFails b view need count before now (NoSuchUser u users) = (view ≡ Trace u) × (users ≡ length b.users.items) × (SeesUser view users → ⊥)
-LoadFails b view need count before now (SmallDisk wanted have) = SeesUser view (length b.users.items) × (wanted ≡ need) × (have ≡ count) × (have < need)
-LoadFails b view need count before now Memory = HasDiskRoom b view need count
-LoadFails b view need count before now Disk = HasDiskRoom b view need count × Rose before now
+-- why a run that needs so many sectors is not loaded, over a disk of so many
+abbrev pub LoadFails : Booted → View → (need count : ℕ) → LoadFault → Type 0
+LoadFails b view need count (NoSuchUser u users) = (view ≡ Trace u) × (users ≡ length b.users.items) × (SeesUser view users → ⊥)
+LoadFails b view need count (SmallDisk wanted have) = SeesUser view (length b.users.items) × (wanted ≡ need) × (have ≡ count) × (have < need)
+LoadFails b view need count Memory = HasDiskRoom b view need count
+LoadFails b view need count Disk = HasDiskRoom b view need count
 
 -- what is kept of a trace before the first step
 abbrev pub first_tracer : View → Option Tracer

@@ -25,13 +25,11 @@ pub record CanRun {L : Type 0} (steps : ℕ) (run : Kept L) (count : ℕ) : Type
   pub fine : run.fault ≡ None
   pub time : run.machine.time + steps < 2 ^ 64
 
--- what a report leaves: nothing of the run changes but its fault, and the disk's sectors are as before; a fault that it kept is answered again and nothing
--- is touched; a new one is kept, and is no spent budget; by the size and the sectors of a disk, and the objects before and after
-pub record ReportLeaves {L D O : Type 0} (size : D → ℕ) (sectors : D → Option (List (List ℕ))) (run : Kept L) (disk : D) (out : O) (new : Kept L)
-    (retold : D) (printed : O) (result : Result (Unit {0}) RunFault) : Type 0 where
+-- what a report leaves: nothing of the run changes but its fault; a fault that it kept is answered again and nothing is touched; a new one is kept, and is
+-- no spent budget; by the objects before and after
+pub record ReportLeaves {L D O : Type 0} (run : Kept L) (disk : D) (out : O) (new : Kept L) (retold : D) (printed : O)
+    (result : Result (Unit {0}) RunFault) : Type 0 where
   pub same : new ≡ record run { fault = new.fault }
-  pub same_size : size retold ≡ size disk
-  pub same_sectors : sectors retold ≡ sectors disk
   pub again : IfSome run.fault (λ f. result ≡ Err f)
   pub still : IsSome run.fault → (new ≡ run) × (retold ≡ disk) × (printed ≡ out)
   pub keeps : IfErr result (λ f. new.fault ≡ Some f)

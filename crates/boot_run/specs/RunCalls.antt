@@ -131,7 +131,7 @@ pub record LoadCalls {D T : Type 0} (told : sectors_of.Ghosts D) (disk redisk : 
 -- room, where one is; where none is the calls are the load's alone, and nothing is printed
 pub record LoadsRun {O D T : Type 0} (told : sectors_of.Ghosts D) (b : Booted) (view : View) (loading : Load) (old new : O × D)
     (result : Result T LoadFault) : Type 0 where
-  pub refused : IfErr result (LoadFails b view loading.need (told.size old.1) (told.faults old.1) (told.faults new.1))
+  pub refused : IfErr result (LoadFails b view loading.need (told.size old.1))
   pub loaded : IfOk result (λ _. HasDiskRoom b view loading.need (told.size old.1))
   pub calls : OnErr result (LoadCalls told old.1 new.1 loading.script result)
   pub unprinted : OnErr result (new.0 ≡ old.0)

@@ -107,7 +107,7 @@ impl<L: Layer + Drop> Run<L> {
     ) -> Result<Run<L>, LoadFault>
         requires { BootFollows (L.image layer) (L.sizes layer) (L.map layer) boot }
         ensures loaded { IfOk result (IsLoaded D.Sectors layer boot view schedule (boot_load boot schedule) disk.old disk.new) }
-        ensures refused { IfErr result (LoadFails boot view (pages_needed boot) (D.size disk.old) (D.faults disk.old) (D.faults disk.new)) }
+        ensures refused { IfErr result (LoadFails boot view (pages_needed boot) (D.size disk.old)) }
         ensures size { D.size disk.new ≡ D.size disk.old }
         ensures script { LoadCalls D.Sectors disk.old disk.new (boot_load boot schedule).script result }
     {
@@ -153,7 +153,7 @@ impl<L: Layer + Drop> Run<L> {
         requires follows { BootFollows (L.image layer) (L.sizes layer) (L.map layer) boot }
         requires few { length rom.now.items ≤ 1024 }
         ensures loaded { IfOk result (IsLoaded D.Sectors layer boot view schedule (rom_load boot schedule rom.now.items) disk.old disk.new) }
-        ensures refused { IfErr result (LoadFails boot view (rom_needed boot) (D.size disk.old) (D.faults disk.old) (D.faults disk.new)) }
+        ensures refused { IfErr result (LoadFails boot view (rom_needed boot) (D.size disk.old)) }
         ensures size { D.size disk.new ≡ D.size disk.old }
         ensures script { LoadCalls D.Sectors disk.old disk.new (rom_load boot schedule rom.now.items).script result }
     {
@@ -177,8 +177,7 @@ impl<L: Layer + Drop> Run<L> {
         requires { BootFollows (L.image setup.layer) (L.sizes setup.layer) (L.map setup.layer) setup.boot }
         ensures loaded { IfOk result
             (IsLoaded D.Sectors setup.layer setup.boot view setup.schedule (own_load setup.boot setup.schedule) disk.old disk.new) }
-        ensures refused { IfErr result
-            (LoadFails setup.boot view (rom_needed setup.boot) (D.size disk.old) (D.faults disk.old) (D.faults disk.new)) }
+        ensures refused { IfErr result (LoadFails setup.boot view (rom_needed setup.boot) (D.size disk.old)) }
         ensures size { D.size disk.new ≡ D.size disk.old }
         ensures script { LoadCalls D.Sectors disk.old disk.new (own_load setup.boot setup.schedule).script result }
     {
@@ -200,8 +199,7 @@ impl<L: Layer + Drop> Run<L> {
         requires room { HasDiskRoom setup.boot view (rom_needed setup.boot) (D.size disk.old) }
         ensures loaded { IfOk result
             (IsLoaded D.Sectors setup.layer setup.boot view setup.schedule (rom_load setup.boot setup.schedule rom.now) disk.old disk.new) }
-        ensures refused { IfErr result
-            (LoadFails setup.boot view (rom_needed setup.boot) (D.size disk.old) (D.faults disk.old) (D.faults disk.new)) }
+        ensures refused { IfErr result (LoadFails setup.boot view (rom_needed setup.boot) (D.size disk.old)) }
         ensures size { D.size disk.new ≡ D.size disk.old }
         ensures script { LoadCalls D.Sectors disk.old disk.new (rom_load setup.boot setup.schedule rom.now).script result }
     {
@@ -431,7 +429,7 @@ impl<L: Layer + Drop> Run<L> {
     /// again, and touches nothing.
     pub fn report<D: Sectors, O: Sink>(&mut self, disk: &mut D, out: &mut O) -> Result<(), RunFault>
         requires disk { D.size disk.old ≡ self.old.count }
-        ensures rest { ReportLeaves D.size D.sectors self.old disk.old out.old self.new disk.new out.new result }
+        ensures rest { ReportLeaves self.old disk.old out.old self.new disk.new out.new result }
         ensures script { ReportCalls O.Sink D.Sectors self.old (out.old, disk.old) (out.new, disk.new) result }
     {
         if let Some(fault) = self.fault {

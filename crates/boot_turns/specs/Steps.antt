@@ -1,12 +1,10 @@
 -- What every call says that steps a machine, beside what the step or the turn comes to.
-use Rattle.std.specs.Prelude.{◌≡◌, ◌≢◌, ℕ, ◌+◌, ◌<◌, ◌≤◌, ◌^◌, Bool, true, false, Option, None, List, IfSome, Result, Err, length}
+use Rattle.std.specs.Prelude.{◌≡◌, ℕ, ◌+◌, ◌<◌, ◌≤◌, ◌^◌, Bool, true, false, Option, None, IfSome, length}
 use Rattle.std.specs.Option.{option_map}
 use Rattle.mips_table.specs.Fits.{NamesSector}
 use Rattle.layer_map.specs.Map.{Map}
 use Rattle.mips_machine.specs.Machine.{Held}
 use Rattle.boot_turns.specs.declared.tracer.Tracer.{Tracer}
-use Rattle.boot_turns.specs.declared.answers.RunFault.{RunFault}
-use Rattle.boot_turns.specs.declared.answers.RunFault.TheVariants.{StepLimit}
 use Rattle.boot_turns.specs.Tracing.{CanTrace, counted_step}
 
 -- what a machine has to be for so many steps over a disk of so many sectors, with what is kept of a trace: its steps stay countable in 64 bits, its command
@@ -54,9 +52,3 @@ pub record CountsStep (current : ℕ) (old new : Option Tracer) (answer : Bool) 
 pub record KeepsTracer (old new : Tracer) : Type 0 where
   pub user : new.user ≡ old.user
   pub few : new.steps ≤ old.steps
-
--- what rows leave of a disk, from which pages are read: its sectors and its size; and no budget is looked at
-pub record RowsLeave {T D : Type 0} (told : D → Option (List (List ℕ))) (large : D → ℕ) (disk redisk : D) (result : Result T RunFault) : Type 0 where
-  pub sectors : told redisk ≡ told disk
-  pub size : large redisk ≡ large disk
-  pub no_limit : result ≢ Err StepLimit

@@ -1,12 +1,12 @@
 // The rows of one step of a trace, and what is kept after it.
-ghost use Rattle.std.specs.Prelude.{◌≡◌, ◌<◌, ◌-◌, ◌^◌, [], length, Some, OnErr};
+ghost use Rattle.std.specs.Prelude.{◌≡◌, ◌≢◌, ◌<◌, ◌-◌, ◌^◌, [], length, Some, Err, OnErr};
 ghost use Rattle.mips_machine.specs.Machine.{state_of};
 ghost use Rattle.boot_turns.specs.Completes.{noted_of};
 ghost use Rattle.boot_turns.specs.Entries.{HasRows};
 ghost use Rattle.boot_turns.specs.Returns.{notes_on, returned};
 ghost use Rattle.boot_turns.specs.RowScripts.{MakesRows, ended_script, followed_script};
 ghost use Rattle.boot_turns.specs.StepRows.{EndKeeps, FollowKeeps};
-ghost use Rattle.boot_turns.specs.Steps.{CanFollow, CountsStep, KeepsTracer, RowsLeave};
+ghost use Rattle.boot_turns.specs.Steps.{CanFollow, CountsStep, KeepsTracer};
 ghost use Rattle.boot_turns.specs.Tracing.{CanTrace};
 
 use crate::answers::RunFault;
@@ -73,7 +73,7 @@ impl Tracer {
         requires can { CanTrace map.now (length machine.now.hardware.memory) machine.now.time (D.size disk.old) self.old }
         ensures behind { EndKeeps (D.sectors disk.old) machine.now map.now self.old self.new call.now answer result }
         ensures keeps { KeepsTracer self.old self.new }
-        ensures leaves { RowsLeave D.sectors D.size disk.old disk.new result }
+        ensures no_limit { result ≢ Err RunFault.StepLimit }
         ensures script { MakesRows O.Sink D.Sectors machine.now map.now (out.old, disk.old) (out.new, disk.new)
             (λ pages. ended_script map.now (state_of machine.now []) pages self.old.user self.old.steps call.now answer) result }
     {
@@ -103,7 +103,7 @@ impl Tracer {
         requires can { CanTrace map.now (length machine.now.hardware.memory) machine.now.time (D.size disk.old) self.old }
         ensures behind { EndKeeps (D.sectors disk.old) machine.now map.now self.old self.new call.now answer result }
         ensures keeps { KeepsTracer self.old self.new }
-        ensures leaves { RowsLeave D.sectors D.size disk.old disk.new result }
+        ensures no_limit { result ≢ Err RunFault.StepLimit }
         ensures script { MakesRows O.Sink D.Sectors machine.now map.now (out.old, disk.old) (out.new, disk.new)
             (λ pages. ended_script map.now (state_of machine.now []) pages self.old.user self.old.steps call.now answer) result }
     {
@@ -147,8 +147,8 @@ impl Tracer {
         ensures behind { FollowKeeps (D.sectors disk.old) machine.now map.now self.old self.new current began result }
         ensures rows { OnErr result (HasRows (state_of machine.now []) self.old.call began) }
         ensures user { self.new.user ≡ self.old.user }
-        ensures can { CanTrace map.now (length machine.now.hardware.memory) machine.now.time (D.size disk.new) self.new }
-        ensures leaves { RowsLeave D.sectors D.size disk.old disk.new result }
+        ensures can { CanTrace map.now (length machine.now.hardware.memory) machine.now.time (D.size disk.old) self.new }
+        ensures no_limit { result ≢ Err RunFault.StepLimit }
         ensures script { MakesRows O.Sink D.Sectors machine.now map.now (out.old, disk.old) (out.new, disk.new)
             (λ pages. followed_script map.now (state_of machine.now []) pages self.old current began) result }
     {

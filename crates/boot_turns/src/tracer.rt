@@ -1,5 +1,5 @@
 // What a trace keeps between two steps, and the rows that it prints.
-ghost use Rattle.std.specs.Prelude.{◌≡◌, ◌*◌, ◌/◌, ◌≤◌, length, ◌+◌, ◌-◌, ◌<◌, ◌^◌, ◌++◌, [], true, OnOk, OnErr};
+ghost use Rattle.std.specs.Prelude.{◌≡◌, ◌≢◌, ◌*◌, ◌/◌, ◌≤◌, length, ◌+◌, ◌-◌, ◌<◌, ◌^◌, ◌++◌, [], true, Err, OnOk, OnErr};
 ghost use Rattle.cvm_outside.specs.Script.{Prints};
 ghost use Rattle.mips_machine.specs.Machine.{state_of};
 ghost use Rattle.cvm_model.specs.Text.{steps_row as steps_text};
@@ -8,7 +8,7 @@ ghost use Rattle.boot_turns.specs.Returns.{noted_at};
 ghost use Rattle.boot_turns.specs.RowScripts.{MakesRows, copy_script};
 ghost use Rattle.boot_turns.specs.Copies.{copied_kept};
 ghost use Rattle.boot_turns.specs.StepRows.{PutsEntries};
-ghost use Rattle.boot_turns.specs.Steps.{KeepsTracer, RowsLeave};
+ghost use Rattle.boot_turns.specs.Steps.{KeepsTracer};
 ghost use Rattle.boot_turns.specs.Tracing.{CanTrace};
 
 use crate::answers::RunFault;
@@ -172,7 +172,7 @@ impl Tracer {
         requires inside { address / 4 + count ≤ 1024 * map.now.params.pages }
         ensures behind { OnOk result (self.new ≡ copied_kept self.old count) }
         ensures keeps { KeepsTracer self.old self.new }
-        ensures leaves { RowsLeave D.sectors D.size disk.old disk.new result }
+        ensures no_limit { result ≢ Err RunFault.StepLimit }
         ensures script { MakesRows O.Sink D.Sectors machine.now map.now (out.old, disk.old) (out.new, disk.new)
             (λ pages. copy_script map.now (state_of machine.now []) pages self.old.user self.old.steps address count) result }
     {

@@ -3,6 +3,7 @@ use Rattle.std.specs.Prelude.{ℕ, zero, suc, ◌+◌, ◌*◌, Bool, true, fals
 use Rattle.std.specs.Fmt.{signed_decimal}
 use Rattle.cvm_text.specs.Hex.{hex8}
 use Rattle.mips_table.specs.Flat.{Flat}
+use Rattle.mips_table.specs.Processor.{Cpu}
 use Rattle.c0_meaning.specs.Value.{Value, Values, int, bool, null, at, group, part}
 use Rattle.cvm_model.specs.Kernel.{parts_of_value, Core, JournalEntry, Stepped, Trapped, Set, Size, Put}
 use Rattle.cvm_model.specs.declared.kernel_fault.KernelFault.{KernelFault}
@@ -76,10 +77,21 @@ memory_text k (w ∷ rest) = (if w == 0 then [] else hex_row (codes "mem " ++ he
 abbrev pub nonzero_row : List ℕ → ℕ → List ℕ
 nonzero_row text word = if word == 0 then [] else hex_row text word
 
--- the rows of user u
+-- the first row of a user of so many pages
+abbrev pub user_head : (u pages pc : ℕ) → List ℕ
+user_head u pages pc = hex_row (codes "user " ++ decimal u ++ codes " pages " ++ decimal pages ++ codes " pc") pc
+
+-- the rows of such a user's processor, by those of its registers
+abbrev pub processor_text : (u pages : ℕ) → Cpu → (registers : List ℕ) → List ℕ
+processor_text u pages cpu registers = user_head u pages cpu.pc ++ registers ++ nonzero_row (codes "hi") cpu.hi ++ nonzero_row (codes "lo") cpu.lo
+
+-- the rows of user u's processor
+abbrev pub cpu_text : ℕ → Flat → List ℕ
+cpu_text u f = processor_text u (pages_of f) f.cpu (regs_text 1 (drop 1 f.cpu.regs))
+
+-- the rows of user u: its processor, and its memory
 abbrev pub user_text : ℕ → Flat → List ℕ
-user_text u f = hex_row (codes "user " ++ decimal u ++ codes " pages " ++ decimal (pages_of f) ++ codes " pc") f.cpu.pc
-    ++ regs_text 1 (drop 1 f.cpu.regs) ++ nonzero_row (codes "hi") f.cpu.hi ++ nonzero_row (codes "lo") f.cpu.lo ++ memory_text 0 f.words
+user_text u f = cpu_text u f ++ memory_text 0 f.words
 
 abbrev pub users_text : ℕ → List Flat → List ℕ
 users_text u [] = []

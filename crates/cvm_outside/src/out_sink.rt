@@ -1,6 +1,7 @@
 // Standard output.
 ghost use Rattle.std.specs.Prelude.{◌≡◌, None};
 
+use crate::calls::Tally;
 use crate::{Sink, SinkFault};
 use std::io::Print;
 
@@ -8,7 +9,7 @@ use std::io::Print;
 #[derive(Drop)]
 pub struct OutSink<P> {
     output: P,
-    faults: u64,
+    tally: Tally,
 }
 
 impl<P: Print + Drop> OutSink<P> {
@@ -16,20 +17,23 @@ impl<P: Print + Drop> OutSink<P> {
     pub fn new(output: P) -> Self
         ensures { ⟦<OutSink<P> as Sink>⟧.faults result ≡ 0 }
     {
-        OutSink { output, faults: 0 }
+        OutSink {
+            output,
+            tally: Tally::new(),
+        }
     }
 }
 
 impl<P: Print + Drop> Sink for OutSink<P> {
     ghost text = { λ _. None };
 
-    ghost faults = { λ s. s.faults };
+    ghost faults = { λ s. s.tally.faults };
 
     fn put(&mut self, bytes: &[u8]) -> Result<(), SinkFault> {
         match self.output.write_all(bytes) {
             Ok(()) => Ok(()),
             Err(_) => {
-                self.faults = self.faults.saturating_add(1);
+                self.tally.count_fault();
                 Err(SinkFault::Failed)
             }
         }
@@ -75,10 +79,10 @@ mod tests {
         sink.put(b"turn 1\n")?;
         sink.put(&[0, 255])?;
         assert!(rt; file_is(rt, b"turn 1\n\x00\xff")?);
-        assert_eq!(rt; sink.faults, 0);
+        assert_eq!(rt; sink.tally.faults, 0);
         fs::remove_file(&rt, NAME)?;
         assert!(rt; sink.put(b"lost").is_err());
-        assert_eq!(rt; sink.faults, 1);
+        assert_eq!(rt; sink.tally.faults, 1);
         Ok(())
     }
 

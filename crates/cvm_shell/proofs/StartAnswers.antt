@@ -18,7 +18,6 @@ use Rattle.cvm_shell.specs.declared.boot.Ready.{Ready}
 use Rattle.run_scripts.specs.declared.session.Session.{Session}
 use Rattle.run_scripts.specs.declared.session.StartPoint.{StartPoint}
 use Rattle.run_scripts.specs.declared.session.StartPoint.TheVariants.{Loaded, Rom}
-use Rattle.cvm_outside.specs.Outside.{Outside}
 use Rattle.run_scripts.specs.Boot.{booted, held_of}
 use Rattle.cvm_shell.specs.Stages.{CallAnswers}
 
@@ -43,12 +42,12 @@ same_sight booted v = subst (SeesUser v) (same_count booted)
 
 -- what a call says of a run that needs so many sectors, at its session's start
 module _ {need : ℕ} (r : Ready) (session : Session) (start : StartPoint) (same : need ≡ held_of start (booted (image_system r.boot) r.schedule)) (is : session.start ≡ start) where
-  pub answers_from : (answer : Result RunEnd LoadFault) (old new : Outside) → IfErr answer (LoadFails r.boot session.view need old.disk.size old.disk.faults new.disk.faults)
-      → IfOk answer (λ e. HasDiskRoom r.boot session.view need old.disk.size) → CallAnswers r session answer old new
-  answers_from answer old new refused loaded =
-      subst (λ (a : StartPoint). CallAnswers r (from a session) answer old new) (sym is) (record {
-        refused = subst (λ (n : ℕ). IfErr answer (LoadFails r.boot session.view n old.disk.size old.disk.faults new.disk.faults)) same refused;
-        loaded = subst (λ (n : ℕ). IfOk answer (λ e. HasDiskRoom r.boot session.view n old.disk.size)) same loaded;
+  pub answers_from : (answer : Result RunEnd LoadFault) (size : ℕ) → IfErr answer (LoadFails r.boot session.view need size)
+      → IfOk answer (λ e. HasDiskRoom r.boot session.view need size) → CallAnswers r session size answer
+  answers_from answer size refused loaded =
+      subst (λ (a : StartPoint). CallAnswers r (from a session) size answer) (sym is) (record {
+        refused = subst (λ (n : ℕ). IfErr answer (LoadFails r.boot session.view n size)) same refused;
+        loaded = subst (λ (n : ℕ). IfOk answer (λ e. HasDiskRoom r.boot session.view n size)) same loaded;
       })
 
 -- the sectors that are told are a disk's

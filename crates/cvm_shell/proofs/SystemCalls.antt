@@ -208,19 +208,19 @@ module _ {O : Type 0} (text : sink_of.Ghosts O) (r : Ready) (session : Session) 
   from_old : (script : List Call) (due : Status) → at o ≡ old → Acts script due (at o) (at o') status → Acts script due old (at o') status
   from_old script due e acts = subst (λ (x : Outside). Acts script due x (at o') status) e acts
 
-  pub fault_said : (f : LoadFault) (count now : ℕ) → LoadFails r.boot session.view (session_needs r session) old.disk.size count now f
+  pub fault_said : (f : LoadFault) → LoadFails r.boot session.view (session_needs r session) old.disk.size f
       → (f ≡ load.Disk → HasDiskRoom r.boot session.view (session_needs r session) old.disk.size → DoesPlan p old (at o) Disk) → (f ≢ load.Disk → at o ≡ old) → SaysFault text f o o' status → DoesOrWants p old (at o') status
-  fault_said load.Disk count now fails begun still said = inl (as_begun Disk (begun refl fails.0) said)
-  fault_said load.Memory count now fails begun still (same, is) = inr (is, ap at same ∙ still (λ e. cc))
-  fault_said (load.SmallDisk need have) count now fails begun still said =
+  fault_said load.Disk fails begun still said = inl (as_begun Disk (begun refl fails) said)
+  fault_said load.Memory fails begun still (same, is) = inr (is, ap at same ∙ still (λ e. cc))
+  fault_said (load.SmallDisk need have) fails begun still said =
       inl (small_does session (image_system r.boot) r.schedule put old (at o') status need have (same_sight r.boot session.view fails.0) fails.1 fails.2 fails.3
       (from_old (says (refusal_text (small_disk need have))) Disk (still (λ e. cc)) (said shelf disk)))
-  fault_said (load.NoSuchUser u users) count now fails begun still said =
+  fault_said (load.NoSuchUser u users) fails begun still said =
       inl (user_does session (image_system r.boot) r.schedule put old (at o') status u users (fails.1 ∙ same_count r.boot) fails.0 fails.2
       (from_old (says (refusal_text (no_such_user u users))) Refused (still (λ e. cc)) (said shelf disk)))
 
-  pub end_said : (answer : Result RunEnd LoadFault) → CallAnswers r session answer old (at o) → (loads answer ≡ true → HasDiskRoom r.boot session.view (session_needs r session) old.disk.size → DoesPlan p old (at o) (status_by answer))
+  pub end_said : (answer : Result RunEnd LoadFault) → CallAnswers r session old.disk.size answer → (loads answer ≡ true → HasDiskRoom r.boot session.view (session_needs r session) old.disk.size → DoesPlan p old (at o) (status_by answer))
       → (answer ≢ Err load.Disk → OnErr answer (at o ≡ old)) → SaysEnd text answer o o' status → DoesOrWants p old (at o') status
   end_said (Ok end) a begun still said = inl (as_begun (status_of_end end) (begun refl a.loaded) said)
   end_said (Err f) a begun still said =
-      fault_said f old.disk.faults disk.faults a.refused (λ e. begun (ap (λ (g : LoadFault). loads {T = RunEnd} (Err g)) e)) (λ other. still (λ e. other (one_err f load.Disk e))) said
+      fault_said f a.refused (λ e. begun (ap (λ (g : LoadFault). loads {T = RunEnd} (Err g)) e)) (λ other. still (λ e. other (one_err f load.Disk e))) said

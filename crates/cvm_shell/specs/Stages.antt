@@ -3,9 +3,6 @@ use Rattle.std.specs.Prelude.{◌≡◌, ◌≢◌, ⊤, ◌<◌, ◌≤◌, ℕ
 use Rattle.cvm_outside.specs.Told.{Tells, TOO_LONG}
 use Rattle.cvm_outside.specs.declared.shelf.ShelfFault.{ShelfFault}
 use Rattle.cvm_outside.specs.declared.shelf.ShelfFault.TheVariants as fault
-use Rattle.cvm_outside.specs.declared.sink.Sink as sink_of
-use Rattle.cvm_outside.specs.declared.sectors.Sectors as sectors_of
-use Rattle.cvm_outside.specs.Outside.{Outside, Files, output, drive}
 use Rattle.mips_asm.specs.declared.fault.AsmFault.{AsmFault}
 use Rattle.mips_asm.specs.declared.fault.AsmFault.TheVariants as text
 use Rattle.c0_parser.specs.declared.fault.ReadFault.TheVariants as read
@@ -143,18 +140,10 @@ AreUserWords files result = MatchResult result (λ v. user_words_from 1 files �
 abbrev pub session_needs : Ready → Session → ℕ
 session_needs r session = sectors_needed session (image_system r.boot) r.schedule
 
--- a sink and a disk beside files
-abbrev pub within : {O D : Type 0} → sink_of.Ghosts O → sectors_of.Ghosts D → Files → O × D → Outside
-within sink disk shelf (o, d) = record { shelf = shelf; sink = output sink o; disk = drive disk d }
-
--- WHAT A CALL ANSWERS that loads a system and runs it, of what is seen before and after it: why it loaded nothing, or that there was room
-pub record CallAnswers (r : Ready) (session : Session) (answer : Result RunEnd LoadFault) (old new : Outside) : Type 0 where
-  pub refused : IfErr answer (LoadFails r.boot session.view (session_needs r session) old.disk.size old.disk.faults new.disk.faults)
-  pub loaded : IfOk answer (λ _. HasDiskRoom r.boot session.view (session_needs r session) old.disk.size)
-
--- whatever the files, which it leaves alone
-abbrev pub AnswersAs : {A : Type 0} → Ready → Session → (Files → A → Outside) → Result RunEnd LoadFault → (old new : A) → Type 0
-AnswersAs r session see answer old new = (before after : Files) → CallAnswers r session answer (see before old) (see after new)
+-- WHAT A CALL ANSWERS that loads a system over a disk of so many sectors and runs it: why it loaded nothing, or that there was room
+pub record CallAnswers (r : Ready) (session : Session) (size : ℕ) (answer : Result RunEnd LoadFault) : Type 0 where
+  pub refused : IfErr answer (LoadFails r.boot session.view (session_needs r session) size)
+  pub loaded : IfOk answer (λ _. HasDiskRoom r.boot session.view (session_needs r session) size)
 
 -- a system belongs to its layer
 abbrev pub SystemFollows : Ready → Type 0

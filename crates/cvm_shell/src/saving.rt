@@ -5,7 +5,7 @@ ghost use Rattle.boot_run.specs.SaveRoom.{most_words, FILE_ROOM};
 ghost use Rattle.real_layer.specs.Image.{layer_image};
 ghost use Rattle.run_scripts.specs.Command.{save as of_save, save_session};
 ghost use Rattle.cvm_shell.specs.Does.{Gets, RunDoes, SaveDoes, SavedCalls, SessionPasts};
-ghost use Rattle.run_scripts.specs.Ends.{AreBytes, as_outside};
+ghost use Rattle.run_scripts.specs.Ends.{AreBytes};
 ghost use Rattle.run_scripts.specs.Served.{files_of};
 ghost use Rattle.run_scripts.specs.Plan.{frames_of, most_bytes};
 ghost use Rattle.cvm_shell.specs.Stages.{save_stop, saveable_for, CallAnswers, SystemFollows, HasNoSaveRoom, FilesPlan};
@@ -122,8 +122,7 @@ fn save_ready<S: Shelf, O: Sink, D: Sectors>(
     requires room { saveable.room.words ≡ most_words (frames_of (image_system saveable.ready.boot)) }
     requires short { most_bytes (image_system saveable.ready.boot) ≤ FILE_ROOM }
     requires some { 1 ≤ (save_view save.now).boot.turns }
-    ensures answers { CallAnswers saveable.ready (save_session (save_view save.now)) result
-        (as_outside S.Shelf O.Sink D.Sectors shelf.old out.old disk.old) (as_outside S.Shelf O.Sink D.Sectors shelf.new out.new disk.new) }
+    ensures answers { CallAnswers saveable.ready (save_session (save_view save.now)) (D.size disk.old) result }
     ensures calls { SavedCalls S.Shelf O.Sink D.Sectors saveable.ready (save_view save.now) result
         (shelf.old, out.old, disk.old) (shelf.new, out.new, disk.new) }
     ensures pasts { SessionPasts saveable.ready (save_session (save_view save.now)) (D.size disk.old) (D.sectors disk.old) }

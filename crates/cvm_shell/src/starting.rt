@@ -1,7 +1,7 @@
 // A system is loaded for its session's start, and run.
 ghost use Rattle.std.specs.Prelude.{◌≤◌};
 ghost use Rattle.cvm_shell.specs.Does.{SessionCalls, SessionPasts};
-ghost use Rattle.cvm_shell.specs.Stages.{within, AnswersAs, SystemFollows};
+ghost use Rattle.cvm_shell.specs.Stages.{CallAnswers, SystemFollows};
 
 use crate::boot::Ready;
 use boot_run::{Limits, LoadFault, RunEnd, Setup, pasts_exist, run_rom, run_whole};
@@ -19,7 +19,7 @@ pub(crate) fn load_and_run<O: Sink, D: Sectors>(
 ) -> Result<RunEnd, LoadFault>
     requires follows { SystemFollows ready }
     requires some { 1 ≤ session.turns }
-    ensures answers { AnswersAs ready session (within O.Sink D.Sectors) result (out.old, disk.old) (out.new, disk.new) }
+    ensures answers { CallAnswers ready session (D.size disk.old) result }
     ensures calls { SessionCalls O.Sink D.Sectors ready session result (out.old, disk.old) (out.new, disk.new) }
     ensures pasts { SessionPasts ready session (D.size disk.old) (D.sectors disk.old) }
 {

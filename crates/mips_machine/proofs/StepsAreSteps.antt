@@ -1,14 +1,13 @@
 -- A whole step: the lines are latched, then comes an interrupt or an instruction, then the disk counts; and how the code's
 -- parts make it.
-use Rattle.std.proofs.Common.{◌≡◌, ℕ, zero, suc, ◌+◌, Option, Some, None, IfSome, List, [], length, replicate, refl, sym, ap, ◌∙◌, subst, arith}
+use Rattle.std.proofs.Common.{◌≡◌, ℕ, zero, suc, ◌+◌, Option, Some, None, IfSome, List, [], length, replicate, refl, sym, ap, ◌∙◌, subst}
 use Rattle.std.specs.Int.RustNames.{bit_or}
 use Rattle.std.specs.Option.{option_map}
 use Rattle.std.proofs.lemmas.List.{length-replicate}
 use Rattle.mips_table.specs.Device.{Device, Pending, Idle, Reading, Writing, Environment, settled, disk_counted}
 use Rattle.mips_table.specs.Machine.{State, come_to, latched, step_ended, if_on, step}
 use Rattle.schedule_file.specs.Rows.{Rows, lines_at}
-use Rattle.cvm_outside.specs.Numbering.{Tally}
-use Rattle.sector_disk.specs.Ports.{Ports, device_of, ports_of, unfinished, EndsStep, TransferFails, CallsKeepUp, transfer_script}
+use Rattle.sector_disk.specs.Ports.{device_of, ports_of, EndsStep, TransferFails, transfer_script}
 use Rattle.mips_machine.specs.declared.event.Event.{Event}
 use Rattle.mips_machine.specs.declared.event.Event.TheVariants.{Off}
 use Rattle.mips_machine.specs.Hardware.{Hardware, state_in, chosen, told_as, IsOfComing}
@@ -60,16 +59,6 @@ settled_commands (Writing (suc left) sector) d = refl
 
 pub counted_commands : (d : Device) → (disk_counted d).commands ≡ d.commands
 counted_commands d = settled_commands d.pending d
-
--- where nothing changes the disk isn't called
-pub nothing_called : (ports : Ports) (calls : Tally) → CallsKeepUp ports ports calls calls
-nothing_called ports calls = record { made = 0; done = omega arith; calls = refl }
-
--- the disk is called at the end of a step alone, and a command that begins before it is counted then
-pub calls_follow : (start lit acted left : Ports) (before after : Tally) → lit ≡ start → lit.commands + unfinished acted.pending ≡ acted.commands + unfinished lit.pending → CallsKeepUp acted left before after → CallsKeepUp start left before after
-calls_follow start lit acted left before after same begun f =
-    let done = f.done in
-    subst (λ p. CallsKeepUp p left before after) same (record { made = f.made; done = omega arith; calls = f.calls })
 
 -- a step of a machine that is off, with the sectors that are told or else with any
 pub off_steps : (count : ℕ) (now : Held) (word : ℕ) (told : Option (List (List ℕ))) → IfSome told (λ ss. length ss ≡ count) → now.hardware.off ≡ Some word → StepDone count now now told told (Off word)

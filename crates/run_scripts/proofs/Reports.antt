@@ -11,7 +11,7 @@ use Rattle.cvm_model.specs.Cvm.{Cvm, IsCvm, Status, Running, Halted, Faulted, ma
 use Rattle.cvm_model.specs.Kernel.{JournalEntry, parts_of_value}
 use Rattle.cvm_model.specs.Primitives.{no_flat, pages_of, user_of}
 use Rattle.cvm_model.specs.Stands.{UserFits}
-use Rattle.cvm_model.specs.Text.{rows_text, fault_name, globals_text, log_text, memory_text, hex_row, user_text, users_text, report_text, closing_text, start_row, journal_rows, open_journal_rows, trace_end}
+use Rattle.cvm_model.specs.Text.{rows_text, fault_name, globals_text, log_text, memory_text, hex_row, cpu_text, user_text, users_text, report_text, closing_text, start_row, journal_rows, open_journal_rows, trace_end}
 use Rattle.boot_turns.specs.TurnEnds.{RestsAfter, first_user_machine}
 use Rattle.boot_turns.specs.declared.answers.View.{View}
 use Rattle.boot_turns.specs.declared.answers.View.TheVariants.{Boot, Trace}
@@ -20,7 +20,7 @@ use Rattle.boot_turns.specs.Runs.{Run, Past, IsPast, state_at, turns_at, steps_m
 use Rattle.boot_report.specs.Resident.{page_reads}
 use Rattle.boot_turns.specs.StepScript.{page_of, steps_script}
 use Rattle.boot_run.specs.RunEnds.{SeesUser}
-use Rattle.boot_run.specs.Closing.{opening_script, page_report_script, cpu_text, user_report_script, boot_report, last_steps, trace_report, report_by, closing_script, says}
+use Rattle.boot_run.specs.Closing.{opening_script, page_report_script, user_report_script, boot_report, last_steps, trace_report, report_by, closing_script, says}
 use Rattle.boot_run.specs.RunScript.{rest_script, run_script}
 use Rattle.run_scripts.specs.Headline.{text_by, text_at, ended_text, whole_text}
 use Rattle.run_scripts.proofs.RowsAlongRuns.{Known, first_is}

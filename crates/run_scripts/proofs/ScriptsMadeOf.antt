@@ -10,6 +10,7 @@ use Rattle.page_model.specs.Paging.{Pages}
 use Rattle.cvm_model.specs.Cvm.{System, Cvm, Status, Running, Halted, Faulted, map_of}
 use Rattle.cvm_model.specs.Kernel.{JournalEntry, Put}
 use Rattle.cvm_model.specs.Primitives.{pages_of, user_of}
+use Rattle.cvm_model.specs.Text.{cpu_text}
 use Rattle.boot_turns.specs.declared.answers.View.{View}
 use Rattle.boot_turns.specs.declared.answers.View.TheVariants.{Boot, Trace}
 use Rattle.cvm_outside.specs.Script.{Call, Printed, Read, Wrote, scripts}
@@ -20,7 +21,7 @@ use Rattle.boot_turns.specs.StepScript.{prints, page_of, copies_at, entry_reads,
 use Rattle.boot_run.specs.LoadScript.{load_script, page_write_script as load_page}
 use Rattle.boot_run.specs.Loading.{words_of_page}
 use Rattle.sector_disk.specs.Ports.{transfer_script}
-use Rattle.boot_run.specs.Closing.{opening_script, page_report_script, cpu_text, user_report_script, boot_report, trace_report, report_by, closing_script, says}
+use Rattle.boot_run.specs.Closing.{opening_script, page_report_script, user_report_script, boot_report, trace_report, report_by, closing_script, says}
 use Rattle.boot_run.specs.AnyScripts.{untold_rest}
 use Rattle.boot_run.specs.RunScript.{rest_script, run_script}
 

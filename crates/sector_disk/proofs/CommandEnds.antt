@@ -5,8 +5,7 @@ use Rattle.std.proofs.lemmas.List.{length-replicate, length-set}
 use Rattle.cvm_outside.specs.Told.{Tells, told_sector, with_sector}
 use Rattle.mips_table.specs.Device.{Pending, Idle, Reading, Writing, is_busy, disk_counted}
 use Rattle.mips_table.specs.Fits.{NamesSector}
-use Rattle.cvm_outside.specs.Numbering.{until_fault, Tally}
-use Rattle.sector_disk.specs.Ports.{Ports, device_of, EndsStep, CallsKeepUp, transfer_script, unfinished}
+use Rattle.sector_disk.specs.Ports.{Ports, device_of, EndsStep, transfer_script}
 
 -- where no sector moves, any sectors will do
 pub nothing_moves : (size : ℕ) (old new : Ports) (buffer after : List ℕ) (told retold : Option (List (List ℕ))) → IfSome told (λ ss. length ss ≡ size) → ((sectors : List (List ℕ)) → disk_counted (device_of old buffer sectors) ≡ device_of new after sectors) → retold ≡ told → EndsStep size old new buffer after told retold
@@ -16,14 +15,6 @@ nothing_moves size old new buffer after None retold sized counts same =
 nothing_moves size old new buffer after (Some ss) retold sized counts same =
     let e = counts ss in
     record { sectors = ss; many = sized; given = refl; device = rw e refl; left = rw e same }
-
--- no command is done, and the disk isn't called
-pub none_is_done : (old new : Ports) (calls : Tally) → unfinished new.pending ≡ unfinished old.pending → new.commands ≡ old.commands → CallsKeepUp old new calls calls
-none_is_done old new calls e same = record { made = 0; done = omega arith; calls = refl }
-
--- the command that was under way is done, with one call
-pub one_is_done : (old new : Ports) (before after : Tally) → unfinished old.pending ≡ 1 → unfinished new.pending ≡ 0 → new.commands ≡ old.commands → after.calls ≡ until_fault before.faults before.calls → CallsKeepUp old new before after
-one_is_done old new before after e f same called = record { made = 1; done = omega arith; calls = called }
 
 -- no command is under way
 pub idle_stays : (size : ℕ) (old : Ports) (buffer : List ℕ) (told : Option (List (List ℕ))) → IfSome told (λ ss. length ss ≡ size) → old.pending ≡ Idle → EndsStep size old old buffer buffer told told

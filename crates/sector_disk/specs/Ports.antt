@@ -1,8 +1,6 @@
 -- The disk behind its ports, the device that it is with a buffer and sectors, and what the end of a step leaves.
-use Rattle.std.specs.Prelude.{◌≡◌, ◌+◌, ℕ, zero, suc, List, [], ◌∷◌, length, Option, IfSome, Result, OnOk, OnErr}
+use Rattle.std.specs.Prelude.{◌≡◌, ℕ, zero, suc, List, [], ◌∷◌, length, Option, IfSome, Result, OnOk, OnErr}
 use Rattle.std.specs.Option.{option_map}
-use Rattle.cvm_outside.specs.Causes.{Counts}
-use Rattle.cvm_outside.specs.Numbering.{Tally, called}
 use Rattle.cvm_outside.specs.Told.{with_sector}
 use Rattle.mips_table.specs.Device.{Device, Pending, Idle, Reading, Writing, disk_counted}
 use Rattle.mips_table.specs.Fits.{NamesSector}
@@ -49,35 +47,10 @@ transfer_script (Reading zero sector) buffer = Read sector ∷ []
 transfer_script (Writing zero sector) buffer = Wrote sector buffer ∷ []
 transfer_script other buffer = []
 
--- a command that is under way is one that is unfinished
-abbrev pub unfinished : Pending → ℕ
-unfinished Idle = 0
-unfinished other = 1
-
--- THE DISK IS CALLED ONCE FOR EACH COMMAND, when it is done: from these ports to those it was called as often as commands were done, of which at most the
--- last failed. A command that was begun before and isn't under way any more is one of them, and one that is under way at the end is none.
-pub record CallsKeepUp (old new : Ports) (before after : Tally) : Type 0 where
-  pub made : ℕ
-  pub done : made + (old.commands + unfinished new.pending) ≡ new.commands + unfinished old.pending
-  pub calls : after.calls ≡ called made before
-
--- and so many times more
-pub record CallsWith (more : ℕ) (old new : Ports) (before after : Tally) : Type 0 where
-  pub made : ℕ
-  pub done : made + (old.commands + unfinished new.pending) ≡ new.commands + unfinished old.pending
-  pub calls : after.calls ≡ called (more + made) before
-
--- what is known of a disk: how many sectors it has, those that are told, its count of faults, and that of the calls which read or write one, up to
--- the first that failed
+-- what is known of a disk: how many sectors it has, and those that are told
 pub record KnownDisk : Type 0 where
   pub size : ℕ
   pub told : Option (List (List ℕ))
-  pub faults : ℕ
-  pub calls : ℕ
-
--- both counts
-abbrev pub tally_of : KnownDisk → Tally
-tally_of known = record { faults = known.faults; calls = known.calls }
 
 -- the end of a step, by its answer: the ports, the buffer and the disk before and after it
 pub record StepEnd {E : Type 0} (result : Result (Unit {0}) E) (old new : Ports) (buffer after : List ℕ) (disk left : KnownDisk) : Type 0 where
@@ -86,5 +59,3 @@ pub record StepEnd {E : Type 0} (result : Result (Unit {0}) E) (old new : Ports)
   pub ports : (sectors : List (List ℕ)) → new ≡ ports_of (disk_counted (device_of old buffer sectors))
   pub under_way : NamesSector left.size new.pending
   pub size : left.size ≡ disk.size
-  pub count : Counts disk.faults left.faults result
-  pub calls : CallsKeepUp old new (tally_of disk) (tally_of left)

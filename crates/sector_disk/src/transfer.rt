@@ -1,8 +1,6 @@
 // The command under way, and its transfer.
 ghost use Rattle.std.specs.Prelude.{◌≡◌, ◌+◌, ◌*◌, ◌<◌, ◌≤◌, length, slice_set, ◌∷◌, [], ℕ, List, OnOk, OnErr};
 ghost use Rattle.cvm_outside.specs.Script.{Read, Wrote, Asks};
-ghost use Rattle.cvm_outside.specs.Causes.{Counts};
-ghost use Rattle.cvm_outside.specs.Numbering.{until_fault};
 ghost use Rattle.cvm_outside.specs.Told.{Tells, told_sector, with_sector};
 ghost use Rattle.frame_store.specs.Words.{frame_of, with_frame};
 ghost use Rattle.mips_table.specs.Device.{is_busy as is_under_way};
@@ -45,8 +43,6 @@ pub(crate) fn read_sector<D: Sectors>(
     ensures frames { frames.new ≡ with_frame frames.old buffer (frame_of frames.new buffer) }
     ensures length { length frames.new ≡ length frames.old }
     ensures words { OnOk result (Tells (told_sector (D.sectors disk.old) sector) (frame_of frames.new buffer)) }
-    ensures count { Counts (D.faults disk.old) (D.faults disk.new) result }
-    ensures called { D.calls disk.new ≡ until_fault (D.faults disk.old) (D.calls disk.old) }
     ensures script { Asks D.Sectors disk.old disk.new (Read sector ∷ []) result }
 {
     a_frame_is_its_part();
@@ -65,8 +61,6 @@ pub(crate) fn write_sector<D: Sectors>(
     ensures size { D.size disk.new ≡ D.size disk.old }
     ensures words { OnOk result (D.sectors disk.new ≡ with_sector (D.sectors disk.old) sector (frame_of frames.now buffer)) }
     ensures torn { OnErr result ((words : List ℕ) × (D.sectors disk.new ≡ with_sector (D.sectors disk.old) sector words)) }
-    ensures count { Counts (D.faults disk.old) (D.faults disk.new) result }
-    ensures called { D.calls disk.new ≡ until_fault (D.faults disk.old) (D.calls disk.old) }
     ensures script { Asks D.Sectors disk.old disk.new (Wrote sector (frame_of frames.now buffer) ∷ []) result }
 {
     disk.write(sector, frames.lend(buffer))

@@ -1,8 +1,12 @@
-use Rattle.std.proofs.Common.{◌≡◌, ℕ, List, Option, Some, None, sym, ap, ◌∙◌, subst, Bool, true, Result, Ok, Err}
+use Rattle.std.proofs.Common.{◌≡◌, ℕ, List, length, Option, Some, None, sym, ap, ◌∙◌, subst, Bool, true, Result, Ok, Err, rules}
 use Rattle.std.specs.Prelude.{IfSome}
 use Rattle.boot_turns.specs.declared.completion.Stepped.{Stepped}
 use Rattle.boot_turns.specs.declared.completion.Stepped.TheVariants.{Kept}
 use Rattle.boot_turns.specs.Completes.{state_seen, KeptUser, StepBegan, turn_began}
+use Rattle.std.specs.Option.{option_map}
+use Rattle.mips_table.specs.Fits.{NamesSector}
+use Rattle.boot_turns.specs.Tracing.{CanTrace}
+use Rattle.boot_turns.proofs.QuietRows.{rows_keep_sectors, rows_keep_size}
 use Rattle.boot_turns.proofs.CountedSteps.{step_counted}
 use Rattle.boot_turns.proofs.StepEvents.{ran_left}
 use Rattle.boot_turns.proofs.StepMakes.{step_broken, step_plain, step_follows, step_counts}
@@ -87,9 +91,61 @@ returns-in_err-stepped-clause-left g c =
 pub returns-in_err-follow-clause-left : goal.returns-in_err-follow-clause-left
 returns-in_err-follow-clause-left g c =
     let w = err_from_is_err_and c.from_residual-in_err-follow.result c.from_residual-in_err-follow.ensures.1 in
-    let sectors = c.in_err-follow.ensures.leaves.sectors in
+    let sectors = rows_keep_sectors {T = Unit {0}} g.O.Sink g.D.Sectors c.step_once.new.machine c.args.map.now c.args.out.now c.follow.new.out c.step_once.new.disk c.follow.new.disk c.in-Some.kept c.current_user-current.result c.began-began.result (Err c.in_err-follow.field-0.0) c.in_err-follow.ensures.script in
     rw w.1 (ran_left (g.D.Sectors.size c.args.disk.now) c.args.machine.now c.step_once.new.machine (g.D.Sectors.sectors c.args.disk.now) (g.D.Sectors.sectors c.follow.new.disk) w.0
     (ap (λ (r : Option (List (List ℕ))). state_seen r c.step_once.new.machine) sectors ∙ c.in_ok-stepped.ensures.ends.ran))
+
+pub returns-in-Some-clause-ends : goal.returns-in-Some-clause-ends
+returns-in-Some-clause-ends g c =
+    let sectors = rows_keep_sectors {T = Unit {0}} g.O.Sink g.D.Sectors c.step_once.new.machine c.args.map.now c.args.out.now c.follow.new.out c.step_once.new.disk c.follow.new.disk c.in-Some.kept c.current_user-current.result c.began-began.result (Ok tt) c.in_ok-follow.ensures.script in
+    record {
+      ran = rw sectors c.in_ok-stepped.ensures.ends.ran;
+      began = search rules;
+      kept = search rules;
+    }
+
+-- what stays, where its rows were looked for
+not_none : (o : Option Tracer) (k : Tracer) → o ≡ None → o ≡ Some k → ⊥
+not_none o k none is = absurd (cc)
+
+same_user : (o : Option Tracer) (k new : Tracer) → o ≡ Some k → new.user ≡ k.user → option_map (λ (k : Tracer). k.user) (Some new) ≡ option_map (λ (k : Tracer). k.user) o
+same_user o k new is same = rw is (ap Some same)
+
+pub returns-in_err-follow-clause-leaves : goal.returns-in_err-follow-clause-leaves
+returns-in_err-follow-clause-leaves g c =
+    let size = rows_keep_size {T = Unit {0}} g.O.Sink g.D.Sectors c.step_once.new.machine c.args.map.now c.args.out.now c.follow.new.out c.step_once.new.disk c.follow.new.disk c.in-Some.kept c.current_user-current.result c.began-began.result (Err c.in_err-follow.field-0.0) c.in_err-follow.ensures.script in
+    let from = here g (goal.at.returns-in_err-follow-clause-leaves g c).In-Some in
+    record {
+      stays = record {
+        rows = c.step_once.ensures.stays.rows;
+        memory = c.step_once.ensures.stays.memory;
+        sector = subst (λ n. NamesSector n c.step_once.new.machine.hardware.ports.pending) (sym size) c.step_once.ensures.stays.sector;
+        size = size ∙ c.step_once.ensures.stays.size;
+      };
+      trace = record {
+        untraced = λ none. absurd (not_none c.args.tracer.now c.in-Some.kept none from);
+        can = subst (λ n. CanTrace c.args.map.now (length c.step_once.new.machine.hardware.memory) c.step_once.new.machine.time n c.follow.new.self) (sym size) c.in_err-follow.ensures.can;
+        user = same_user c.args.tracer.now c.in-Some.kept c.follow.new.self from c.in_err-follow.ensures.user;
+      };
+    }
+
+pub returns-in-Some-clause-leaves : goal.returns-in-Some-clause-leaves
+returns-in-Some-clause-leaves g c =
+    let size = rows_keep_size {T = Unit {0}} g.O.Sink g.D.Sectors c.step_once.new.machine c.args.map.now c.args.out.now c.follow.new.out c.step_once.new.disk c.follow.new.disk c.in-Some.kept c.current_user-current.result c.began-began.result (Ok tt) c.in_ok-follow.ensures.script in
+    let from = here g (goal.at.returns-in-Some-clause-leaves g c).In-Some in
+    record {
+      stays = record {
+        rows = c.step_once.ensures.stays.rows;
+        memory = c.step_once.ensures.stays.memory;
+        sector = subst (λ n. NamesSector n c.step_once.new.machine.hardware.ports.pending) (sym size) c.step_once.ensures.stays.sector;
+        size = size ∙ c.step_once.ensures.stays.size;
+      };
+      trace = record {
+        untraced = λ none. absurd (not_none c.args.tracer.now c.in-Some.kept none from);
+        can = subst (λ n. CanTrace c.args.map.now (length c.step_once.new.machine.hardware.memory) c.step_once.new.machine.time n c.follow.new.self) (sym size) c.in_ok-follow.ensures.can;
+        user = same_user c.args.tracer.now c.in-Some.kept c.follow.new.self from c.in_ok-follow.ensures.user;
+      };
+    }
 
 -- THE CALLS of the step
 pub returns-in_err-stepped-clause-script : goal.returns-in_err-stepped-clause-script

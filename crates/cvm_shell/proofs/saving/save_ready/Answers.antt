@@ -11,7 +11,7 @@ pub returns-clause-answers : goal.returns-clause-answers
 returns-clause-answers g c =
     let r = c.args.saveable.ready in
     let e = c.save_run.ensures.loads in
-    answers_from r (save_session (save_view c.args.save.now)) Loaded (same_need r.boot r.schedule) refl c.save_run.result _ _ e.refused e.loaded
+    answers_from r (save_session (save_view c.args.save.now)) Loaded (same_need r.boot r.schedule) refl c.save_run.result (g.D.Sectors.size c.args.disk.now) e.refused e.loaded
 
 pub returns-clause-calls : goal.returns-clause-calls
 returns-clause-calls g c = ready_calls g.S.Shelf g.O.Sink g.D.Sectors c.args.saveable.ready (save_view c.args.save.now) c.save_run.result _ _ c.save_run.ensures.script

@@ -1,13 +1,11 @@
 -- The end of a step, by the command that was under way.
-use Rattle.std.proofs.Common.{◌-◌, rules, refl, sym, ap, ◌∙◌, arith}
-use Rattle.mips_table.specs.Device.{Pending}
+use Rattle.std.proofs.Common.{◌-◌, rules, sym, ap, ◌∙◌, arith}
 use Rattle.mips_table.specs.Device as device
-use Rattle.sector_disk.specs.Ports.{Ports, unfinished}
+use Rattle.sector_disk.specs.Ports.{Ports}
 use Rattle.frame_store.specs.Words.{frame_of}
 use Rattle.cvm_outside.specs.Script.{done}
 use Rattle.sector_disk.specs.Transfers.{pending_of}
-use Rattle.sector_disk.specs.declared.transfer.Transfer.{Transfer}
-use Rattle.sector_disk.proofs.CommandEnds.{none_is_done, one_is_done, idle_stays, no_read, no_write, reading_later, writing_later, reading_now, writing_now}
+use Rattle.sector_disk.proofs.CommandEnds.{idle_stays, no_read, no_write, reading_later, writing_later, reading_now, writing_now}
 use Rattle.sector_disk.proofs.Disk.count.Goals as goal
 
 pub returns-in-Idle-clause-end : goal.returns-in-Idle-clause-end
@@ -17,8 +15,6 @@ returns-in-Idle-clause-end g c = record {
   ports = search rules;
   under_way = search rules;
   size = search rules;
-  count = search rules;
-  calls = none_is_done _ _ _ refl refl;
 }
 
 pub returns-in-Reading-eq0-default-clause-end : goal.returns-in-Reading-eq0-default-clause-end
@@ -28,8 +24,6 @@ returns-in-Reading-eq0-default-clause-end g c = record {
   ports = search rules;
   under_way = search rules;
   size = search rules;
-  count = search rules;
-  calls = one_is_done _ _ _ _ (ap (λ (p : Ports). unfinished p.pending) (sym c.self.view_is) ∙ ap (λ (t : Transfer). unfinished (pending_of t)) c.in-Reading-eq0-default.is) refl (ap (λ (p : Ports). p.commands) c.self.view_is) c.read_sector.ensures.called;
 }
 
 pub returns-in-Writing-eq0-default-clause-end : goal.returns-in-Writing-eq0-default-clause-end
@@ -39,8 +33,6 @@ returns-in-Writing-eq0-default-clause-end g c = record {
   ports = search rules;
   under_way = search rules;
   size = search rules;
-  count = search rules;
-  calls = one_is_done _ _ _ _ (ap (λ (p : Ports). unfinished p.pending) (sym c.self.view_is) ∙ ap (λ (t : Transfer). unfinished (pending_of t)) c.in-Writing-eq0-default.is) refl (ap (λ (p : Ports). p.commands) c.self.view_is) c.write_sector.ensures.called;
 }
 
 pub returns-in-Reading-clause-end : goal.returns-in-Reading-clause-end
@@ -50,8 +42,6 @@ returns-in-Reading-clause-end g c = record {
   ports = search rules;
   under_way = search rules;
   size = search rules;
-  count = search rules;
-  calls = none_is_done _ _ _ (sym (ap (λ (p : Ports). unfinished p.pending) (sym c.self.view_is) ∙ ap (λ (t : Transfer). unfinished (pending_of t)) c.in-Reading.is)) (ap (λ (p : Ports). p.commands) c.self.view_is);
 }
 
 pub returns-in-Writing-clause-end : goal.returns-in-Writing-clause-end
@@ -61,8 +51,6 @@ returns-in-Writing-clause-end g c = record {
   ports = search rules;
   under_way = search rules;
   size = search rules;
-  count = search rules;
-  calls = none_is_done _ _ _ (sym (ap (λ (p : Ports). unfinished p.pending) (sym c.self.view_is) ∙ ap (λ (t : Transfer). unfinished (pending_of t)) c.in-Writing.is)) (ap (λ (p : Ports). p.commands) c.self.view_is);
 }
 
 pub returns-in-Idle-clause-script : goal.returns-in-Idle-clause-script

@@ -1,9 +1,9 @@
 -- No command is under way.
-use Rattle.std.proofs.Common.{rules, refl, sym, ap, ◌∙◌}
+use Rattle.std.proofs.Common.{rules, sym, ap, ◌∙◌}
 use Rattle.mips_table.specs.Device.{is_busy}
 use Rattle.cvm_outside.specs.Script.{done}
 use Rattle.sector_disk.specs.Ports.{Ports}
-use Rattle.sector_disk.proofs.CommandEnds.{none_is_done, idle_stays, not_busy}
+use Rattle.sector_disk.proofs.CommandEnds.{idle_stays, not_busy}
 use Rattle.sector_disk.proofs.Disk.end_step.Goals as goal
 
 pub returns-then-not-is_busy-clause-end : goal.returns-then-not-is_busy-clause-end
@@ -13,8 +13,6 @@ returns-then-not-is_busy-clause-end g c = record {
   ports = search rules;
   under_way = search rules;
   size = search rules;
-  count = search rules;
-  calls = none_is_done _ _ _ refl refl;
 }
 
 pub returns-then-not-is_busy-clause-script : goal.returns-then-not-is_busy-clause-script

@@ -11,7 +11,7 @@ use Rattle.boot_run.specs.RunEnds.{SeesUser}
 use Rattle.boot_run.proofs.Readiness.{first_fits, fresh_run, loaded_ready}
 use Rattle.boot_run.proofs.Loads.{loaded_long, loaded_whole, stands_loaded}
 use Rattle.boot_run.specs.LoadedPages.{user_pages}
-use Rattle.boot_run.proofs.LoadStores.{load_fails, load_leaves}
+use Rattle.boot_run.proofs.LoadStores.{load_leaves}
 use Rattle.boot_run.proofs.WholeScripts.{load_done, load_broke}
 use Rattle.boot_run.proofs.run.Run.load.Goals as goal
 
@@ -47,13 +47,10 @@ returns-in-Ok-clause-loaded g c =
 
 pub returns-in-Err-clause-refused : goal.returns-in-Err-clause-refused
 returns-in-Err-clause-refused g c =
-    let users : c.len.result ≡ length c.args.boot.users.items = c.len.ensures ∙ sym c.as_slice.ensures.len ∙ ap (λ (us : List (Vec ℕ Global)). length us) c.as_slice.ensures.value in (
-      record {
-        user = subst (λ n. SeesUser c.args.view n) users c.in_ok-check_view.ensures.ok;
-        room = subst (λ n. n ≤ g.D.Sectors.size c.args.disk.now) c.pages_needed-need.ensures (subst (λ n. c.pages_needed-need.result ≤ n) c.count-have.ensures c.in_ok-check_room.ensures.ok);
-      },
-      load_fails g.D.Sectors c.args.disk.now c.write_pages.new.disk (boot_load c.args.boot c.args.schedule).script (returns-in-Err-clause-script g c),
-    )
+    let users : c.len.result ≡ length c.args.boot.users.items = c.len.ensures ∙ sym c.as_slice.ensures.len ∙ ap (λ (us : List (Vec ℕ Global)). length us) c.as_slice.ensures.value in record {
+      user = subst (λ n. SeesUser c.args.view n) users c.in_ok-check_view.ensures.ok;
+      room = subst (λ n. n ≤ g.D.Sectors.size c.args.disk.now) c.pages_needed-need.ensures (subst (λ n. c.pages_needed-need.result ≤ n) c.count-have.ensures c.in_ok-check_room.ensures.ok);
+    }
 
 pub invariant_of-result : goal.invariant_of-result
 invariant_of-result g c =

@@ -9,7 +9,7 @@ use Rattle.boot_turns.specs.Rom.{rom_loaded}
 use Rattle.boot_run.specs.Loading.{pages_of_users, system_of, with_rom}
 use Rattle.boot_run.specs.LoadEnds.{names_sector, rom_needed}
 use Rattle.boot_run.proofs.Readiness.{first_fits, fresh_run, loaded_ready}
-use Rattle.boot_run.proofs.LoadStores.{load_fails, load_leaves}
+use Rattle.boot_run.proofs.LoadStores.{load_leaves}
 use Rattle.boot_run.proofs.RomLoads.{rom_whole, stands_from_rom}
 use Rattle.boot_run.specs.Loaded.{rom_load}
 use Rattle.boot_run.specs.LoadedPages.{rom_pages}
@@ -51,10 +51,7 @@ returns-in-Ok-clause-loaded g c =
     }
 
 pub returns-in-Err-clause-refused : goal.returns-in-Err-clause-refused
-returns-in-Err-clause-refused g c = (
-  c.requires.room,
-  load_fails g.D.Sectors c.args.disk.now c.write_pages.new.disk (rom_load c.args.setup.boot c.args.setup.schedule c.args.rom.now).script (returns-in-Err-clause-script g c),
-)
+returns-in-Err-clause-refused g c = c.requires.room
 
 pub invariant_of-result : goal.invariant_of-result
 invariant_of-result g c =

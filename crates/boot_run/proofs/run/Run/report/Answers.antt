@@ -2,17 +2,12 @@ use Rattle.std.proofs.Common.{Err, rules, ◌∙◌, ap, sym}
 use Rattle.boot_run.specs.LoadEnds.{Kept}
 use Rattle.boot_run.specs.Shown.{has_faulted}
 use Rattle.boot_run.proofs.ClosingCalls.{kept_report, faulted_report}
-use Rattle.boot_run.proofs.ReadingCalls.{reads_leave}
 use Rattle.boot_run.proofs.run.Run.report.Goals as goal
 
 pub returns-clause-rest : goal.returns-clause-rest
 returns-clause-rest g c =
-    let none = ap (λ (q : Kept _). q.fault) (sym c.self.view_is) ∙ c.in_default.is in
-    let left = reads_leave g.O.Sink g.D.Sectors c.args.out.now c.put_report-answer.new.out c.args.disk.now c.put_report-answer.new.disk c.put_report-answer.result (c.put_report-answer.ensures.script.some none) in
     record {
       same = search rules;
-      same_size = left.0;
-      same_sectors = left.1;
       again = search rules;
       still = search rules;
       keeps = search rules;

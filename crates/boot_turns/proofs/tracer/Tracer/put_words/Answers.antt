@@ -1,9 +1,8 @@
-use Rattle.std.proofs.Common.{◌≡◌, ℕ, ◌+◌, ◌*◌, ◌/◌, [], List, None, Ok, Err, Some, refl, ap, ◌∙◌, arith, rules}
+use Rattle.std.proofs.Common.{◌≡◌, ℕ, ◌+◌, ◌*◌, ◌/◌, [], List, None, Ok, Some, refl, ap, ◌∙◌, arith}
 use Rattle.std.proofs.lemmas.Result.{err_from_is_err_and}
 use Rattle.cvm_outside.specs.Outside.{output, drive}
 use Rattle.cvm_outside.proofs.ScriptsFollow.{first}
 use Rattle.cvm_outside.proofs.RowsPut.{loop_none, loop_more, loop_stop, same_script}
-use Rattle.cvm_outside.specs.declared.sectors.DiskFault.TheVariants.{Failed}
 use Rattle.mips_machine.specs.Machine.{state_of}
 use Rattle.cvm_model.specs.Paged.{paged_of}
 use Rattle.boot_report.specs.Resident.{word_reads}
@@ -72,21 +71,6 @@ returns-in_err-word-clause-keeps g c = keeps_puts c.args.self.now c.loop-i.self 
 
 pub returns-in_err-put-clause-keeps : goal.returns-in_err-put-clause-keeps
 returns-in_err-put-clause-keeps g c = keeps_more c.args.self.now c.loop-i.self c.put.new.self (keeps_puts c.args.self.now c.loop-i.self c.loop-i.i c.loop-i.invariant.self) c.in_err-put.ensures.keeps
-
--- and the disk is as it was
-pub returns-in_err-word-clause-leaves : goal.returns-in_err-word-clause-leaves
-returns-in_err-word-clause-leaves g c = record {
-  sectors = still_told {T = ℕ} g.D.Sectors c.loop-i.disk c.read_user_word.new.disk (Err Failed) c.args.map.now (state_of c.args.machine.now []) c.loop-i.self.user (c.args.address / 4 + c.loop-i.i) c.in_err-word.ensures.asks ∙ c.loop-i.invariant.sectors;
-  size = as_large {T = ℕ} g.D.Sectors c.loop-i.disk c.read_user_word.new.disk (Err Failed) c.args.map.now (state_of c.args.machine.now []) c.loop-i.self.user (c.args.address / 4 + c.loop-i.i) c.in_err-word.ensures.asks ∙ c.loop-i.invariant.size;
-  no_limit = search rules;
-}
-
-pub returns-in_err-put-clause-leaves : goal.returns-in_err-put-clause-leaves
-returns-in_err-put-clause-leaves g c = record {
-  sectors = still_told g.D.Sectors c.loop-i.disk c.read_user_word.new.disk (Ok c.in_ok-word.word) c.args.map.now (state_of c.args.machine.now []) c.loop-i.self.user (c.args.address / 4 + c.loop-i.i) c.in_ok-word.ensures.asks ∙ c.loop-i.invariant.sectors;
-  size = as_large g.D.Sectors c.loop-i.disk c.read_user_word.new.disk (Ok c.in_ok-word.word) c.args.map.now (state_of c.args.machine.now []) c.loop-i.self.user (c.args.address / 4 + c.loop-i.i) c.in_ok-word.ensures.asks ∙ c.loop-i.invariant.size;
-  no_limit = search rules;
-}
 
 pub returns-in_err-word-clause-script : goal.returns-in_err-word-clause-script
 returns-in_err-word-clause-script g c pages are shelf =
