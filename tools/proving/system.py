@@ -124,9 +124,9 @@ use Rattle.cvm_model.specs.Stands.{{IsUser}}
 use Rattle.cvm_model.specs.Cvm.{{System, Running, first_core, status_of}}
 use Rattle.cvm_model.specs.Invariant.{{Dispatch, IsTrapOf, with_machine, {fit}, IsSafe, RunsAreLawful}}
 use Rattle.cvm_model.specs.Systems.{{status_after, lines_taken, KeepsAll, IsSystemInvariant}}
-use Rattle.cvm_model.proofs.Systems.{{systems_hold, status_join, lines_join}}
+use Rattle.cvm_model.proofs.SystemsHold.{{systems_hold, status_join, lines_join}}
 use Rattle.cvm_model.proofs.KeepsSystem.{{all_user, all_halt}}
-use Rattle.kernel_theorems.proofs.Histories.{{one_more}}
+use Rattle.kernel_theorems.proofs.OneDispatchMore.{{one_more}}
 use Rattle.kernel_theorems.proofs.OneKernel.{{DoesWithin, keeps_within}}
 use Rattle.{name}.specs.Tree.{{kernel_tree}}
 use Rattle.{name}.specs.Property.{{Data, data_of, first, Between, Always, Runs, PropertyHolds}}
@@ -262,14 +262,14 @@ use Rattle.kernel_linker.specs.Sources.{{AcceptedAreOfImages}}
 use Rattle.run_scripts.specs.Boot.{{booted, environment_of, start_state, steps_before}}
 use Rattle.kernel_theorems.specs.Text.{{Means{means_program}}}
 use Rattle.kernel_boots.specs.Systems.{{SystemEndsWithin}}
-use Rattle.kernel_boots.proofs.Systems.{{asks_source, asked_users, systems_boot}}
+use Rattle.kernel_boots.proofs.SystemsBoot.{{asks_source, asked_users, systems_boot}}
 use Rattle.{name}.specs.Tree.{{kernel_tree}}
 use Rattle.{name}.specs.Text.{{text as kernel_text}}
 {user_uses}use Rattle.{name}.specs.Property.{{Always, Runs}}
 use Rattle.{name}.specs.Boots.{{most_turns, most_dispatches, SystemBoots}}
 use Rattle.{name}.proofs.Property.{{invariant}}
 
--- What is printed, letter by letter: `stopped` of kernel_boots/proofs/Systems says that the invariant holds of the state that has halted; of what `halts` gives,
+-- What is printed, letter by letter: `stopped` of kernel_boots/proofs/SystemsBoot says that the invariant holds of the state that has halted; of what `halts` gives,
 -- `text_is` is the report of that state, which computes where its machines are known.
 
 -- HOW LONG IT RUNS: `below` is that a state which is still running, with so many lines taken at most, stands before the last of its turns (k < most_turns
@@ -406,7 +406,7 @@ def made(name, users, kernel, shaped, touches):
     files = {
         'src/lib.rt': lib,
         'specs/Lib.antt': ''.join('pub mod %s\n' % it for it in specs),
-        'proofs/Lib.antt': 'mod Property\nmod Boots\nmod Texts\n' + ('mod ProgramTexts\n' if numbers else ''),
+        'proofs/Lib.antt': 'mod Property\nmod Boots\nmod TextIsTree\n' + ('mod ProgramTexts\n' if numbers else ''),
         'specs/Property.antt': PROPERTY.format(**dict(word, program_uses=word['of_property'])),
         'specs/Boots.antt': BOOTS_SPEC.format(**dict(word, boot_uses=word['of_boots'])),
         'proofs/Property.antt': PROOF.format(**word),

@@ -15,9 +15,7 @@ KERNELS = {'IsTurn', 'Phase', 'data_of', 'kernel_tree', 'report_lines', 'report_
 TWO_OF_A_KIND = {'AnswersAreSo', 'EndsWithin', 'GoesOnAt', 'HasWrongField', 'IsInRange', 'NothingElseIsSo', 'answer', 'header_of', 'mark_at',
                  'number_at', 'pieces', 'spelling', 'ranged', 'Fixed', 'Outer', 'GrowsFresh', 'NeverOut', 'mark_of', 'scope'}
 # Samples, programs of cases, and an operator.
-SAMPLES = {'DeskFits', 'IsTooLong', 'IsTooSmall', 'number', 'overflowing', 'params', '◌>>=◌'}
-# Two things under one name.
-TWO_THINGS = {'IsTyped', 'function_in', 'words_in'}
+SAMPLES = {'DeskFits', 'IsTooLong', 'IsTooSmall', '◌>>=◌'}
 
 
 def public():
@@ -37,7 +35,7 @@ class Names(unittest.TestCase):
         crates = public()
         several = {name for name, where in crates.items() if len(where) > 1}
         trees = {name for name in several if name.startswith('dispatch_')}
-        self.assertEqual(several - trees, KERNELS | TWO_OF_A_KIND | SAMPLES | TWO_THINGS)
+        self.assertEqual(several - trees, KERNELS | TWO_OF_A_KIND | SAMPLES)
         with open(os.path.join(pages.TOP, 'docs', 'DECISIONS.md')) as f:
             said = re.search(r'Of ([\d,]+) public names of specs (\d+) stand in several crates: (\d+) in written kernels, (\d+) for', f.read())
         self.assertEqual([len(several), len(trees | KERNELS), len(TWO_OF_A_KIND)], [int(said.group(n)) for n in (2, 3, 4)])

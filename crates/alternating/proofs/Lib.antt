@@ -1,5 +1,5 @@
 mod Property
-mod Users
-mod Boots
-mod Reports
-mod Texts
+mod UsersBring
+mod AlternatingBoots
+mod ReportComputes
+mod TextIsTree

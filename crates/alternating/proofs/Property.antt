@@ -13,17 +13,17 @@ use Rattle.cvm_model.specs.Primitives.{user_of, with_user}
 use Rattle.cvm_model.specs.Cvm.{System, Running, Halted, first_flat, first_core, status_of}
 use Rattle.cvm_model.specs.Invariant.{Dispatch, IsTrapOf, with_machine, HasUsers, RunsAreLawful}
 use Rattle.cvm_model.specs.Systems.{SystemProperty, status_after, lines_taken, UsePages, KeepsAll, IsSystemInvariant}
-use Rattle.cvm_model.proofs.Systems.{systems_hold, status_join, lines_join}
+use Rattle.cvm_model.proofs.SystemsHold.{systems_hold, status_join, lines_join}
 use Rattle.cvm_model.proofs.KeepsSystem.{all_user, all_halt}
 use Rattle.kernel_theorems.specs.UserRuns.{after, CallsAfter}
 use Rattle.kernel_theorems.proofs.UserRuns.{core_of_parts, known_step, known_trap, arrives}
-use Rattle.kernel_theorems.proofs.Histories.{one_more}
-use Rattle.kernel_theorems.proofs.Tests.{by_same}
+use Rattle.kernel_theorems.proofs.OneDispatchMore.{one_more}
+use Rattle.kernel_theorems.proofs.TestsSplit.{by_same}
 use Rattle.kernel_theorems.proofs.OneKernel.{DoesWithin, keeps_within}
 use Rattle.alternating.specs.Tree.{kernel_tree}
 use Rattle.alternating.specs.Users.{user_1, user_2}
 use Rattle.alternating.specs.Property.{data_of, half, whose_turn, steps_of_1, steps_of_2, leg, steps_up_to, behind_calls, machines, status_behind, console_behind, Alternates, Alternating, RunsAlternating, UsersAlternate}
-use Rattle.alternating.proofs.Users.{brings_odd, brings_even}
+use Rattle.alternating.proofs.UsersBring.{brings_odd, brings_even}
 
 -- a state that is running is behind five calls at most
 pub still_few : (calls : ℕ) → calls ≤ 6 → status_behind calls ≡ Running → calls ≤ 5

@@ -1,6 +1,6 @@
 mod Property
-mod Texts
-mod Answered
-mod Programs
-mod Compiled
+mod TextIsTree
+mod AnyUsersAnswered
+mod AnyProgramsAnswered
+mod CompiledAnswers
 mod StepCounts

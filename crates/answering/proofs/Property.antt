@@ -14,12 +14,12 @@ use Rattle.cvm_model.specs.Primitives.{user_of, with_register}
 use Rattle.cvm_model.specs.Cvm.{System, Running, Halted, first_flat, first_core, status_of}
 use Rattle.cvm_model.specs.Invariant.{Dispatch, IsTrapOf, with_machine, HasUsers, RunsAreLawful}
 use Rattle.cvm_model.specs.Systems.{SystemProperty, status_after, lines_taken, UsePages, KeepsAll, IsSystemInvariant}
-use Rattle.cvm_model.proofs.Systems.{systems_hold, status_join, lines_join}
+use Rattle.cvm_model.proofs.SystemsHold.{systems_hold, status_join, lines_join}
 use Rattle.cvm_model.proofs.KeepsSystem.{all_user, all_halt}
 use Rattle.kernel_theorems.specs.UserRuns.{after, told}
 use Rattle.kernel_theorems.proofs.UserRuns.{core_of_parts, known_step, KnownTrap, known_trap, arrives}
-use Rattle.kernel_theorems.proofs.Histories.{one_more}
-use Rattle.kernel_theorems.proofs.Tests.{small_sum}
+use Rattle.kernel_theorems.proofs.OneDispatchMore.{one_more}
+use Rattle.kernel_theorems.proofs.TestsSplit.{small_sum}
 use Rattle.kernel_theorems.proofs.OneKernel.{DoesWithin, keeps_within}
 use Rattle.answering.specs.Tree.{kernel_tree}
 use Rattle.answering.specs.Property.{RunsAnswering, data_of, Phase, FirstAsks, FirstEnds, SecondAsks, SecondEnds, Over, traps_of, total_of, status_of_phase, IsTurn, most_of, gone_by, first_at, second_at, IsAnswering, Answering, AnswersAreRight}

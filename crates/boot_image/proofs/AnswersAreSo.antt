@@ -18,14 +18,14 @@ use Rattle.boot_image.specs.Answer.{IsImageAnswer, EndsWithin}
 use Rattle.boot_image.specs.Reading.{mark_at, number_at, form_at, bare_at, system_at, header_of, old_header_of, parts_of, answer, old_answer}
 use Rattle.cvm_words.specs.Bytes.{word}
 use Rattle.cvm_words.proofs.BytesOfWords.{length-words, IsBytes}
-use Rattle.boot_image.proofs.Steps.{words-onto, bare, bare_same, system, system_same, Fits}
-use Rattle.boot_image.proofs.Spelled.{mark_is, FormIs, form_is, NumberIs, number_is, BareIs, SystemIs, header_is, old_header_is, sizes_back, nil_of_none, answer_spelled, old_answer_spelled}
-use Rattle.boot_image.proofs.Pieces.{parts, parts_spell, fields_front, field_piece, parts_front, part_piece}
-use Rattle.boot_image.proofs.Ranges.{least_behind, most_behind, MayFollow, Right, right_take, right_last, seven, behind_form, fields_system, fits_right, Begun, Limits, begun}
-use Rattle.boot_image.proofs.Stops.{behind}
+use Rattle.boot_image.proofs.SpellingIsAnswered.{words-onto, bare, bare_same, system, system_same, Fits}
+use Rattle.boot_image.proofs.AnsweredIsSpelling.{mark_is, FormIs, form_is, NumberIs, number_is, BareIs, SystemIs, header_is, old_header_is, sizes_back, nil_of_none, answer_spelled, old_answer_spelled}
+use Rattle.boot_image.proofs.PiecesSpellImages.{parts, parts_spell, fields_front, field_piece, parts_front, part_piece}
+use Rattle.boot_image.proofs.FieldsInRange.{least_behind, most_behind, MayFollow, Right, right_take, right_last, seven, behind_form, fields_system, fits_right, Begun, Limits, begun}
+use Rattle.boot_image.proofs.StopsAtFault.{behind}
 use Rattle.boot_image.proofs.OneAnswer.{NoneHas, marked}
-use Rattle.boot_image.proofs.Readings.{bare_fit, limits, old_limits}
-use Rattle.boot_image.proofs.Stopped.{same_fault, no_fault, stopped, Cause, cause_of, Outside, number_cause, Stop, system_stopped, StopsIn, PartsStop, parts_stopped}
+use Rattle.boot_image.proofs.TwoReadings.{bare_fit, limits, old_limits}
+use Rattle.boot_image.proofs.WhereItStopped.{same_fault, no_fault, stopped, Cause, cause_of, Outside, number_cause, Stop, system_stopped, StopsIn, PartsStop, parts_stopped}
 
 -- ---- a piece that isn't as it is to be
 

@@ -8,8 +8,8 @@ use Rattle.boot_image.specs.Format.{spelling, IsInRange, IsOldInRange}
 use Rattle.boot_image.specs.Reading.{answer, old_answer}
 use Rattle.cvm_words.specs.Reading.{GivesOkUnless}
 use Rattle.cvm_words.proofs.BytesOfWords.{IsBytes}
-use Rattle.boot_image.proofs.Steps.{read_back, old_read_back}
-use Rattle.boot_image.proofs.Spelled.{answer_spelled, old_answer_spelled}
+use Rattle.boot_image.proofs.SpellingIsAnswered.{read_back, old_read_back}
+use Rattle.boot_image.proofs.AnsweredIsSpelling.{answer_spelled, old_answer_spelled}
 
 pub gives_only : (bytes : List ℕ) (r : Result ImageParts ImageFault) → GivesOkUnless Memory r (answer bytes) → (i : ImageParts) → IsInRange i → bytes ≡ spelling i → GivesOkUnless Memory r (Ok i)
 gives_only bytes r h i fits is = subst (λ (a : Result ImageParts ImageFault). GivesOkUnless Memory r a) (ap answer is ∙ read_back i fits) h

@@ -1,12 +1,12 @@
-pub mod Loops
-pub mod Answers
-pub mod Steps
-pub mod Spelled
+pub mod OneUserMore
+pub mod AnswersByFound
+pub mod SpellingIsAnswered
+pub mod AnsweredIsSpelling
 pub mod FormatWords
-mod Pieces
-mod Ranges
-mod Stops
+mod PiecesSpellImages
+mod FieldsInRange
+mod StopsAtFault
 mod OneAnswer
-mod Readings
-mod Stopped
+mod TwoReadings
+mod WhereItStopped
 mod AnswersAreSo

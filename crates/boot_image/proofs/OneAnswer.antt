@@ -14,12 +14,12 @@ use Rattle.boot_image.specs.Format.{fields, most_user_words}
 use Rattle.boot_image.specs.Reading.{system_at, parts_of}
 use Rattle.cvm_words.specs.Bytes.{word}
 use Rattle.cvm_words.proofs.BytesOfWords.{length-words}
-use Rattle.boot_image.proofs.Answers.{Found, answered, answered_parts}
-use Rattle.boot_image.proofs.Steps.{onto, words-onto, system, sizes_of, Fits, system_whole}
-use Rattle.boot_image.proofs.Spelled.{number_short, number_out}
-use Rattle.boot_image.proofs.Pieces.{parts, fields_front, field_piece, parts_front, part_piece}
-use Rattle.boot_image.proofs.Ranges.{least_behind, most_behind, Right, right_take, right_more, behind_form, fits_right, Begun, Limits, begun}
-use Rattle.boot_image.proofs.Stops.{truncated_at, system_stop, Sized, parts_stop, behind, parts_go}
+use Rattle.boot_image.proofs.AnswersByFound.{Found, answered, answered_parts}
+use Rattle.boot_image.proofs.SpellingIsAnswered.{onto, words-onto, system, sizes_of, Fits, system_whole}
+use Rattle.boot_image.proofs.AnsweredIsSpelling.{number_short, number_out}
+use Rattle.boot_image.proofs.PiecesSpellImages.{parts, fields_front, field_piece, parts_front, part_piece}
+use Rattle.boot_image.proofs.FieldsInRange.{least_behind, most_behind, Right, right_take, right_more, behind_form, fits_right, Begun, Limits, begun}
+use Rattle.boot_image.proofs.StopsAtFault.{truncated_at, system_stop, Sized, parts_stop, behind, parts_go}
 
 -- the mark, then these numbers, and then other bytes
 abbrev pub marked : List ℕ → List ℕ → List ℕ

@@ -11,7 +11,7 @@ use Rattle.c0_meaning.specs.Ty.{Ty}
 use Rattle.c0_meaning.specs.Ty as ty
 use Rattle.c0_meaning.specs.Env.{Shape, Typed, typed_of}
 use Rattle.c0_meaning.specs.Form.{ty_view}
-use Rattle.c0_meaning.specs.Words.{StructHolds, fields_named, words, all_words, WordsAreThose}
+use Rattle.c0_meaning.specs.Words.{StructHolds, shape_fields, words, all_words, WordsAreThose}
 use Rattle.c0_meaning.specs.Offsets.{offsets_from}
 use Rattle.c0_meaning.specs.RunLaws.{scalars, all_scalars}
 use Rattle.c0_meaning.specs.Sound.{shapes}
@@ -35,7 +35,7 @@ type_words structs (t ∷ ts) = words structs t + type_words structs ts
 
 -- a struct has the words of its fields
 AreOpened : List Shape → Type 0
-AreOpened structs = (x : List ℕ) → words structs (ty.named x) ≡ type_words structs (types_of (fields_named structs x))
+AreOpened structs = (x : List ℕ) → words structs (ty.named x) ≡ type_words structs (types_of (shape_fields structs x))
 
 declared_words : (structs : List Shape) (decls : List Typed) → all_words structs decls ≡ type_words structs (types_of decls)
 unfolding type_words
@@ -45,7 +45,7 @@ declared_words structs (d ∷ rest) = ap (λ n. words structs d.ty + n) (declare
 -- as in a well formed unit
 are_opened : WordsAreThose → (u : CUnit) → (loose : (x : List ℕ) → StructHolds (shapes u) x x → ⊥) → AreOpened (shapes u)
 unfolding AreOpened
-are_opened those u loose x = those.fields (shapes u) x (loose x) ∙ declared_words (shapes u) (fields_named (shapes u) x)
+are_opened those u loose x = those.fields (shapes u) x (loose x) ∙ declared_words (shapes u) (shape_fields (shapes u) x)
 
 -- a value has as many words as scalars
 mutual
@@ -75,7 +75,7 @@ module _ (structs : List Shape) (opened : AreOpened structs) (lay : StoreTyping)
     value_words ty.bool (bool b) f = refl
     value_words (ty.pointer t) null f = refl
     value_words (ty.pointer t) (at l) f = refl
-    value_words (ty.named x) (group vs) f = values_words (types_of (fields_named structs x)) vs f ∙ sym (opened x)
+    value_words (ty.named x) (group vs) f = values_words (types_of (shape_fields structs x)) vs f ∙ sym (opened x)
     value_words (ty.array t n) (group vs) f = values_words (replicate n t) vs f ∙ replicated n t
     value_words _ _ f = absurd f
 

@@ -1,4 +1,4 @@
-pub mod Texts
+pub mod TextsInTurn
 pub mod MemoryLemmas
 pub mod UserLemmas
 pub mod ReportScripts

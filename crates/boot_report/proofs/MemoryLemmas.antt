@@ -13,7 +13,7 @@ use Rattle.cvm_outside.proofs.RowsPut.{performed}
 use Rattle.boot_report.specs.Texts.{texts, memory_row, page_text, page_word}
 use Rattle.boot_report.specs.Resident.{is_resident, shown, page_reads}
 use Rattle.boot_report.specs.Scripts.{page_script}
-use Rattle.boot_report.proofs.Texts.{texts-same}
+use Rattle.boot_report.proofs.TextsInTurn.{texts-same}
 
 -- a line of 64 words of a page has the rows of their numbers
 pub line_is : (page i n : ℕ) (words : List ℕ) → n ≡ 64 →

@@ -14,7 +14,7 @@ use Rattle.cvm_outside.proofs.ScriptsTell.{speaks_both}
 use Rattle.boot_report.specs.Resident.{page_entry, is_resident, shown}
 use Rattle.boot_report.specs.Texts.{texts, page_text, processor_rows, pages_in, shown_cpu, EntriesFit}
 use Rattle.boot_report.specs.Scripts.{page_script, user_script}
-use Rattle.boot_report.proofs.Texts.{texts-none, texts-suc}
+use Rattle.boot_report.proofs.TextsInTurn.{texts-none, texts-suc}
 
 -- the rows of so many pages of a user, the first of which has number q of all pages, as the machine shows them
 abbrev pub pages_rows : Paged → ℕ → ℕ → List ℕ

@@ -24,7 +24,7 @@ use Rattle.boot_report.specs.Scripts.{user_script}
 use Rattle.cvm_outside.specs.Script.{spoken}
 use Rattle.boot_report.specs.Told.{IsRunning, RowsTell, UserIsTold, UserTells, WordsTell}
 use Rattle.boot_report.specs.Speaks.{UsersSpeak, UserSpeaks, WordsShow}
-use Rattle.boot_report.proofs.Texts.{texts-none, texts-suc, texts-add, texts-same}
+use Rattle.boot_report.proofs.TextsInTurn.{texts-none, texts-suc, texts-add, texts-same}
 
 -- a text that goes down a list from the front
 module _ {A : Type 0} (d : A) (whole : ℕ → List A → List ℕ) (f : ℕ → A → List ℕ) (none : (k : ℕ) → whole k [] ≡ []) (more : (k : ℕ) (v : A) (vs : List A) → whole k (v ∷ vs) ≡ f k v ++ whole (k + 1) vs) where

@@ -11,7 +11,7 @@ use Rattle.masm.specs.Says.{Gives}
 use Rattle.masm.specs.Laws.{From, RunsCompose}
 use Rattle.masm.specs.CodeAddresses.{CallsLead}
 use Rattle.masm.specs.Stays.{RegistersStay}
-use Rattle.masm.proofs.Routines.{from_straight, from_then, from_later, from_does, does_from, loop_goes}
+use Rattle.masm.proofs.RulesForRoutines.{from_straight, from_then, from_later, from_does, does_from, loop_goes}
 use Rattle.swap_layer.specs.Code.{swap_in_code}
 use Rattle.swap_layer.specs.Laws.{SwapsIn, SwappedIn}
 use Rattle.boot_rom.specs.Code.{set_boot_range_code, load_sector_code, loading_code}

@@ -55,7 +55,7 @@ use Rattle.boot_run.specs.RunScript.{AreReads}
 use Rattle.boot_run.specs.Shown.{has_faulted, ended_of}
 use Rattle.boot_run.specs.TurnCalls.{run_around, ReadyAt, Traces}
 use Rattle.boot_run.proofs.TraceRoom.{user_there}
-use Rattle.boot_run.proofs.Reporting.{true_false, its_told, halting, told_rows, told_globals, user_called, users_called, users_are_those}
+use Rattle.boot_run.proofs.ReportReads.{true_false, its_told, halting, told_rows, told_globals, user_called, users_called, users_are_those}
 use Rattle.boot_run.proofs.ReadingCalls.{reads_behind}
 use Rattle.boot_run.proofs.ScriptParts.{at}
 

@@ -31,7 +31,7 @@ use Rattle.boot_run.specs.RunEnds.{SeesUser}
 use Rattle.boot_run.specs.TurnCalls.{Around, run_around, ReadyAt, Traces, EndedBy, Broken, TurnsRun}
 use Rattle.boot_run.specs.TurnParts.{rows_before, TurnCounted, Moved, Views}
 use Rattle.boot_run.proofs.TurnDone.{Wrote}
-use Rattle.boot_run.proofs.Skipping.{spread, turns_spent, turns_turned}
+use Rattle.boot_run.proofs.TurnsPassed.{spread, turns_spent, turns_turned}
 use Rattle.boot_run.specs.Shown.{ended_of}
 
 -- by what is viewed: a boot, or one of the users

@@ -8,13 +8,13 @@ use Rattle.std.proofs.lemmas.Bool.{cases_lt, cond-true, cond-false}
 use Rattle.cvm_outside.specs.Outside.{Outside, no_files, no_output, drive}
 use Rattle.cvm_outside.specs.declared.sectors.Sectors as sectors_of
 use Rattle.cvm_outside.specs.Script.{Call, Printed, Read, Wrote, Got, Stored, scripts, sectors_after}
-use Rattle.cvm_outside.proofs.Blame.{store}
+use Rattle.cvm_outside.proofs.WhoseFaultsRise.{store}
 use Rattle.cvm_outside.proofs.RowsPut.{scripts-none, scripts-suc}
 use Rattle.mips_table.specs.Device.{sector_of}
 use Rattle.page_model.specs.Paging.{Pages}
 use Rattle.cvm_model.specs.Cvm.{System}
 use Rattle.layer_contract.specs.Follows.{loaded, loaded_sector}
-use Rattle.boot_turns.specs.Rom.{page_of, rom_loaded, rom_sector, rom_sectors}
+use Rattle.boot_turns.specs.Rom.{filled_page, rom_loaded, rom_sector, rom_sectors}
 use Rattle.boot_run.specs.Loading.{words_of_page}
 use Rattle.boot_run.specs.LoadedPages.{disk_pages, first_pages, rom_pages, user_pages}
 use Rattle.boot_run.specs.LoadScript.{load_script, page_write_script}
@@ -94,7 +94,7 @@ module _ (y : System) (some : 1 ≤ y.boot.params.pages) where
 
   -- a sector of the disk with a ROM's words, by whether its number is below these, and below all
   abbrev sector_if : List (List ℕ) → ℕ → Bool → Bool → List ℕ
-  sector_if old q low all = cond (not low && all) (page_of y.boot.words (q - first)) (loaded_sector y old q)
+  sector_if old q low all = cond (not low && all) (filled_page y.boot.words (q - first)) (loaded_sector y old q)
 
   of_user : (old : List (List ℕ)) (q : ℕ) → q < first → loaded_sector y old q ≡ rom_sector y old q
   of_user old q lt = sym (ap (λ low. sector_if old q low (nat_lt q many)) (lt-ltb q first lt))

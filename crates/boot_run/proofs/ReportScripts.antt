@@ -19,7 +19,7 @@ use Rattle.boot_report.specs.Resident.{page_reads}
 use Rattle.boot_report.specs.Scripts as reported
 use Rattle.boot_report.proofs.ReportScripts.{shown_is}
 use Rattle.boot_report.proofs.UsersTell.{from_front, registers_told}
-use Rattle.boot_report.proofs.Texts.{texts-same}
+use Rattle.boot_report.proofs.TextsInTurn.{texts-same}
 use Rattle.boot_turns.specs.StepScript as steps
 use Rattle.boot_turns.proofs.ShownRows.{scripts-same}
 use Rattle.boot_run.specs.Closing as closing

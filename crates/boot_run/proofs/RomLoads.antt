@@ -22,7 +22,7 @@ use Rattle.boot_run.specs.LoadScript.{load_script}
 use Rattle.boot_run.specs.Loaded.{rom_load}
 use Rattle.boot_run.specs.LoadEnds.{rom_needed}
 use Rattle.boot_run.proofs.LoadStores.{rom_are}
-use Rattle.boot_run.proofs.Loads.{needed_is}
+use Rattle.boot_run.proofs.MadeIsLoaded.{needed_is}
 
 -- a jump, zeros up to the ROM's frame, and the ROM
 placed : (j k n m : ℕ) (rom : List ℕ) → m ≡ suc k → n ≡ k + 1024 → length rom ≤ 1024 →

@@ -28,7 +28,7 @@ use Rattle.boot_run.specs.Resuming.{IsFirst}
 use Rattle.boot_run.specs.SavedFiles.{wanted_of, SavedBootsAreOfRuns}
 use Rattle.boot_run.specs.SavedRuns.{SavedAt}
 use Rattle.boot_run.proofs.SavedTakenUp.{stood_there, steady, stands, can, user_mode, goes_on}
-use Rattle.boot_run.proofs.Rejoining.{first_of}
+use Rattle.boot_run.proofs.BootsRejoin.{first_of}
 use Rattle.boot_run.proofs.MemorySize.{stays_whole}
 
 -- A WORD THAT IS NOT LEFT OUT is none of the layer's own

@@ -8,7 +8,7 @@ use Rattle.cvm_outside.specs.declared.sink.Sink as sink_of
 use Rattle.cvm_outside.specs.declared.sectors.Sectors as sectors_of
 use Rattle.cvm_outside.specs.Script.{Call, Printed, Who, Performs, done, Puts}
 use Rattle.cvm_outside.proofs.ScriptsFollow.{both, first}
-use Rattle.cvm_outside.proofs.Parts.{append_known-nil}
+use Rattle.cvm_outside.proofs.PartsMakeTheWhole.{append_known-nil}
 use Rattle.cvm_outside.proofs.RowsPut.{performed, same_script}
 use Rattle.mips_table.specs.Device as device
 use Rattle.mips_table.specs.Machine.{State}

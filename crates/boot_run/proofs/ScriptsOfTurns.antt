@@ -52,7 +52,7 @@ use Rattle.boot_run.specs.Shown.{has_faulted, ended_of}
 use Rattle.boot_run.specs.TurnCalls.{rows_of_turn, run_around, ReadyAt, Turned, TurnsEnd, TurnsRun}
 use Rattle.boot_run.specs.TurnParts.{rows_before, rows_after, fault_rows, Moved, Views}
 use Rattle.boot_run.proofs.GoesOnWithRun.{by_view, start_at, starts}
-use Rattle.boot_run.proofs.Skipping.{spread}
+use Rattle.boot_run.proofs.TurnsPassed.{spread}
 use Rattle.boot_run.proofs.InTurns.{turns_cut, turns_alone, turns_behind}
 use Rattle.boot_run.proofs.ScriptParts.{at, none_put, says_put, some_put, prints_put, same_rows}
 

@@ -12,7 +12,7 @@ use Rattle.layer_contract.specs.Calls.{entered, return_address, under_way, ends_
 use Rattle.boot_turns.specs.declared.tracer.Entered.{Entered}
 use Rattle.boot_turns.specs.Returns.{entry_note, noted_at, notes_on, noted_call}
 use Rattle.boot_turns.proofs.EntryReached.{is_at, third_false}
-use Rattle.boot_turns.proofs.Stretches.{later}
+use Rattle.boot_turns.proofs.NoTurnBegins.{later}
 
 module _ (x : Environment) (s : State) where
   pub next_none : (t : ℕ) → under_way x s t ≡ None → entered 10 (run x s (suc t)) ≡ None → under_way x s (suc t) ≡ None

@@ -14,7 +14,7 @@ use Rattle.boot_turns.specs.declared.completion.Begun.{Begun}
 use Rattle.boot_turns.specs.declared.answers.RunFault.{RunFault}
 use Rattle.boot_turns.specs.declared.answers.RunFault.TheVariants.{StepLimit, Disk, Sink}
 use Rattle.boot_turns.proofs.StepEvents.{told_as_some}
-use Rattle.boot_turns.proofs.Stretches.{later}
+use Rattle.boot_turns.proofs.NoTurnBegins.{later}
 use Rattle.boot_turns.proofs.QuietStretches.{skips_stretch}
 use Rattle.mips_machine.specs.Quiet.{Stretch}
 

@@ -17,10 +17,10 @@ use Rattle.layer_contract.specs.Calls.{under_way, ends_here, ended_before, busy_
 use Rattle.boot_turns.specs.declared.tracer.Entered.{Entered}
 use Rattle.boot_turns.specs.Returns.{entry_note, noted_at, notes_on, noted_call}
 use Rattle.boot_turns.proofs.MasksAndTimes.{is_on_of}
-use Rattle.boot_turns.proofs.Stretches.{later}
+use Rattle.boot_turns.proofs.NoTurnBegins.{later}
 use Rattle.boot_turns.proofs.EntryReached.{all_true, is_at}
 use Rattle.boot_turns.proofs.CallUnderWay.{ended_grows, note_back, noted_back, noted_none, noted_there}
-use Rattle.boot_turns.proofs.Journals.{calls_most}
+use Rattle.boot_turns.proofs.JournalsGoOn.{calls_most}
 
 not_busy : (o : Option ℕ) → busy_count o ≡ 0 → o ≡ None
 not_busy None e = refl

@@ -37,9 +37,9 @@ use Rattle.boot_turns.specs.Ahead.{TurnAhead}
 use Rattle.boot_turns.proofs.EntryReached.{entered_none, begins_enters}
 use Rattle.boot_turns.proofs.MasksAndTimes.{Plain, instruction_plain, comes_plainly, was_on, both_left, both_right, on_of, inside_rests, user_rests, user_begins, reset_begins, reset_mask, none_pending, external_mask, taken_special}
 use Rattle.boot_turns.proofs.LinesOfTurns.{turn_more, still, completes_at}
-use Rattle.boot_turns.proofs.Stretches.{Stays, user_sectors, Passed, times, Settled, settled, through}
+use Rattle.boot_turns.proofs.NoTurnBegins.{Stays, user_sectors, Passed, times, Settled, settled, through}
 use Rattle.boot_turns.proofs.MoreUnits.{one_cvm, cvm_more, cvm_next}
-use Rattle.boot_turns.proofs.Dispatching.{mask_begins, none_yet, Closed, Known, Came, dispatches}
+use Rattle.boot_turns.proofs.DispatchComplete.{mask_begins, none_yet, Closed, Known, Came, dispatches}
 
 -- a machine that is on was on
 pub on_back : (x : Environment) (s : State) (j t : ℕ) → j ≤ t → (run x s t).off ≡ None → (run x s j).off ≡ None

@@ -13,7 +13,7 @@ use Rattle.mips_machine.specs.Steps.{outside_of}
 use Rattle.boot_turns.specs.declared.completion.Begun.{Begun}
 use Rattle.boot_turns.specs.Completes.{state_seen, is_at_rest, Progress, SkipsTurns, PassesQuietly}
 use Rattle.boot_turns.proofs.StepEvents.{begun_by, event_begins, told_as_some}
-use Rattle.boot_turns.proofs.Stretches.{later}
+use Rattle.boot_turns.proofs.NoTurnBegins.{later}
 
 rests_by : (s : State) → s.off ≡ None → in_user s ≡ false → rests s ≡ false
 unfolding rests

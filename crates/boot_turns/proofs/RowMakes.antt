@@ -5,7 +5,7 @@ use Rattle.std.specs.Prelude.{◌==◌, if◌then◌else◌, IfSome}
 use Rattle.std.proofs.lemmas.Bool.{cond-true, cond-false}
 use Rattle.cvm_outside.specs.Outside.{Files, Output, Drive}
 use Rattle.cvm_outside.specs.Script.{Call, Who, Puts, Performs, done}
-use Rattle.cvm_outside.proofs.Parts.{append_known-nil}
+use Rattle.cvm_outside.proofs.PartsMakeTheWhole.{append_known-nil}
 use Rattle.cvm_outside.proofs.RowsPut.{performed, then_prints, same_script, scripts-none}
 use Rattle.mips_table.specs.Machine.{State}
 use Rattle.mips_machine.specs.Machine.{Held, state_of}

@@ -30,7 +30,7 @@ use Rattle.boot_turns.specs.Returns.{noted_call, returned}
 use Rattle.boot_turns.proofs.MasksAndTimes.{both_right, inside_begins, inside_rests, user_rests}
 use Rattle.boot_turns.proofs.EntryReached.{entered_none, entered_user, entered_off, not_system}
 use Rattle.boot_turns.proofs.LinesOfTurns.{turn_same, turn_more, still, completes}
-use Rattle.boot_turns.proofs.Stretches.{later, quietly}
+use Rattle.boot_turns.proofs.NoTurnBegins.{later, quietly}
 use Rattle.boot_turns.proofs.MoreUnits.{one_cvm, cvm_more, cvm_next}
 use Rattle.boot_turns.proofs.OneTurn.{on_back, Given, Beginning, BegunAs, same_data}
 use Rattle.boot_turns.proofs.WholeRuns.{OffOn, off_on, ended_off, forward, Going, Covered, covered, defined}
@@ -38,7 +38,7 @@ use Rattle.boot_turns.proofs.NextTurn.{stood_rests}
 use Rattle.boot_turns.proofs.CallUnderWay.{stays_quiet, next_none, under_way_later, ended_later, ended_grows, note_back, noted_back, noted_none, noted_later}
 use Rattle.boot_turns.proofs.MachineCalls.{over_quiet, CallAt, call_at, its_note, noted_last}
 use Rattle.boot_turns.proofs.PrimitiveEntries.{call_agrees, call_placed}
-use Rattle.boot_turns.proofs.Journals.{calls_grow, get_same, Known, known_more, Cut, closed_is, closed, begins_open, begins_step, goes_more, closes}
+use Rattle.boot_turns.proofs.JournalsGoOn.{calls_grow, get_same, Known, known_more, Cut, closed_is, closed, begins_open, begins_step, goes_more, closes}
 
 none_some : {A : Type 0} (p : A) → None ≡ Some p → ⊥
 none_some p e = cc

@@ -34,7 +34,7 @@ use Rattle.boot_turns.specs.LoopScripts.{InSteps, traced_run, CallsOf, StepsCall
 use Rattle.boot_turns.proofs.StepEvents.{told_as_some}
 use Rattle.boot_turns.proofs.ShownRows.{scripts-same, counted_none}
 use Rattle.boot_turns.proofs.SomeCalls.{untold, made_untold, of_both, untold_both, of_due, of_followed}
-use Rattle.boot_turns.proofs.Stretches.{later}
+use Rattle.boot_turns.proofs.NoTurnBegins.{later}
 use Rattle.boot_turns.proofs.TraceLoops.{Booted, Tracks, steps_one, step_made}
 
 -- scripts of some numbers, and those of more behind them

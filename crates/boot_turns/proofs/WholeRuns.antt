@@ -17,7 +17,7 @@ use Rattle.boot_turns.specs.RunMachines.{RunIsDefined, TwoFaults}
 use Rattle.boot_turns.specs.GoesOn.{GoesOnWithin}
 use Rattle.boot_turns.proofs.MasksAndTimes.{off_stays, off_rests, off_begins, off_handled, inside_handled, inside_begins, both_left, on_of}
 use Rattle.boot_turns.proofs.LinesOfTurns.{turn_same, turn_more, turn_grows, completes, faults_grow, faults_stay}
-use Rattle.boot_turns.proofs.Sectors.{torn_past}
+use Rattle.boot_turns.proofs.TornSectors.{torn_past}
 use Rattle.boot_turns.proofs.MoreUnits.{one_cvm, turn_more_units}
 use Rattle.boot_turns.proofs.OneTurn.{Given, Beginning, Keeps, Turns, Waits, turn_ahead, on_back}
 

@@ -18,14 +18,14 @@ abbrev pub rom_sectors : System → ℕ
 rom_sectors y = (load_of y).first + (load_of y).count
 
 -- the k-th page of a list of words, filled up with zeros
-abbrev pub page_of : List ℕ → ℕ → List ℕ
-page_of words k = map (λ i. slice_index words (1024 * k + i)) (range_with_len 0 1024)
+abbrev pub filled_page : List ℕ → ℕ → List ℕ
+filled_page words k = map (λ i. slice_index words (1024 * k + i)) (range_with_len 0 1024)
 
 -- sector q of the disk: a page of the linked words, or as the boot has it
 abbrev pub rom_sector : System → List (List ℕ) → ℕ → List ℕ
 rom_sector y old q =
     let first = user_sectors y in
-    if not (nat_lt q first) && nat_lt q (rom_sectors y) then page_of y.boot.words (q - first) else loaded_sector y old q
+    if not (nat_lt q first) && nat_lt q (rom_sectors y) then filled_page y.boot.words (q - first) else loaded_sector y old q
 
 -- the machine with a ROM of these words, which stand in a frame behind the map's, over a disk that had the sectors `old`
 abbrev pub rom_loaded : System → (rom : List ℕ) → List (List ℕ) → State

@@ -21,9 +21,9 @@ use Rattle.c0_meaning.specs.AsmBody.{argument_words, start_registers, registers_
 use Rattle.c0_meaning.specs.RunLaws.{LookAtTheirs}
 use Rattle.c0_asm_body.specs.Code.{arguments_code, instruction_of, asm_body_code, asm_code}
 use Rattle.c0_asm_body.specs.Laws.{HoldInts, AsmRuns}
-use Rattle.c0_asm_body.proofs.Words.{left, right, is_not, is_of}
-use Rattle.c0_asm_body.proofs.Instructions.{Agree, Sets, sets}
-use Rattle.c0_asm_body.proofs.Arguments.{zeros_behind, whole, whole_fits, source}
+use Rattle.c0_asm_body.proofs.WordsSetRegisters.{left, right, is_not, is_of}
+use Rattle.c0_asm_body.proofs.InstructionsSet.{Agree, Sets, sets}
+use Rattle.c0_asm_body.proofs.ArgumentsAndZeros.{zeros_behind, whole, whole_fits, source}
 
 -- a register of an asm body
 small : (r : ℕ) → IsTrue (may_use r) → r < 8

@@ -1,4 +1,4 @@
-mod Words
-mod Instructions
-mod Arguments
+mod WordsSetRegisters
+mod InstructionsSet
+mod ArgumentsAndZeros
 mod BodiesRun

@@ -7,7 +7,7 @@ use Rattle.mips_asm.specs.declared.fault.AsmFault.{AsmFault}
 use Rattle.mips_asm.specs.Line.{line_meaning, statement}
 use Rattle.mips_asm.specs.Assembled.{assembled}
 use Rattle.c0_meaning.specs.Asm.{is_allowed_word, are_allowed_words}
-use Rattle.c0_asm_text.specs.AsmText.{is_plain_line, allowed, of_assembled, line_words, words_if, words_in, first_bad}
+use Rattle.c0_asm_text.specs.AsmText.{is_plain_line, allowed, of_assembled, line_words, words_if, allowed_words, first_bad}
 
 -- an empty line is allowed
 pub empty_line : line_words [] ≡ Some []
@@ -15,10 +15,10 @@ unfolding line_words assembled line_meaning statement
 empty_line = refl
 
 -- the words so far
-pub words_step : (before : List ℕ) (line : List ℕ) (v : Option (List ℕ)) (lines rest : List (List ℕ)) (whole : List ℕ) → v ≡ line_words line → lines ≡ line ∷ rest → before ++ words_in lines ≡ whole → (before ++ words_if v) ++ words_in rest ≡ whole
+pub words_step : (before : List ℕ) (line : List ℕ) (v : Option (List ℕ)) (lines rest : List (List ℕ)) (whole : List ℕ) → v ≡ line_words line → lines ≡ line ∷ rest → before ++ allowed_words lines ≡ whole → (before ++ words_if v) ++ allowed_words rest ≡ whole
 words_step before line v lines rest whole e f h =
-    append_assoc before (words_if v) (words_in rest)
-    ∙ (ap (λ (o : Option (List ℕ)). before ++ (words_if o ++ words_in rest)) e ∙ (sym (ap (λ (ls : List (List ℕ)). before ++ words_in ls) f) ∙ h))
+    append_assoc before (words_if v) (allowed_words rest)
+    ∙ (ap (λ (o : Option (List ℕ)). before ++ (words_if o ++ allowed_words rest)) e ∙ (sym (ap (λ (ls : List (List ℕ)). before ++ allowed_words ls) f) ∙ h))
 
 either : (old : Option ℕ) (b : Bool) (number : ℕ) (next : Option ℕ) → option_or (option_or old (cond b None (Some number))) next ≡ option_or old (cond b next (Some number))
 either None true number next = refl
@@ -76,6 +76,6 @@ joined (x ∷ xs) ys p q = elim (is_allowed_word x) as (λ b. (b && list_all is_
   | false ↦ λ e. e
 ] p
 
-pub words_allowed : (lines : List (List ℕ)) → are_allowed_words (words_in lines) ≡ true
+pub words_allowed : (lines : List (List ℕ)) → are_allowed_words (allowed_words lines) ≡ true
 words_allowed [] = refl
-words_allowed (line ∷ rest) = joined (words_if (line_words line)) (words_in rest) (line_allowed line) (words_allowed rest)
+words_allowed (line ∷ rest) = joined (words_if (line_words line)) (allowed_words rest) (line_allowed line) (words_allowed rest)

@@ -32,9 +32,9 @@ words_if None = []
 words_if (Some ws) = ws
 
 -- the words of the lines that are allowed
-abbrev pub words_in : List (List ℕ) → List ℕ
-words_in [] = []
-words_in (line ∷ rest) = words_if (line_words line) ++ words_in rest
+abbrev pub allowed_words : List (List ℕ) → List ℕ
+allowed_words [] = []
+allowed_words (line ∷ rest) = words_if (line_words line) ++ allowed_words rest
 
 -- the first line that isn't allowed, where the first of them has this number
 abbrev pub first_bad : ℕ → List (List ℕ) → Option ℕ
@@ -43,7 +43,7 @@ first_bad number (line ∷ rest) = if is_some (line_words line) then first_bad (
 
 -- the words of a text
 abbrev pub text_words : List ℕ → List ℕ
-text_words text = words_in (asm_lines text)
+text_words text = allowed_words (asm_lines text)
 
 -- the first line of a text that isn't allowed; that of the brace before the text is 1
 abbrev pub bad_line : List ℕ → Option ℕ

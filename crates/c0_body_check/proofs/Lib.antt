@@ -1,4 +1,4 @@
-pub mod Numbered
+pub mod NumbersFindNames
 pub mod NodeChecks
 pub mod PartLemmas
 pub mod InPlace

@@ -8,7 +8,7 @@ use Rattle.c0_tree.specs.Tree.{CName, CExpr, null, field, arrow, index, address,
 use Rattle.c0_meaning.specs.Ty.{Ty}
 use Rattle.c0_meaning.specs.Env.{Env, Typed}
 use Rattle.c0_meaning.specs.Fault.{Fault, kept_all}
-use Rattle.c0_meaning.specs.Expression.{Verdict, type_given, own, one, both, is_lvalue, is_local, span_of, is_null, is_pointer, is_null_for, type_asked, asked_faults, compares, operand_type, member, target, place_field_rule, arrow_rule, index_rule, address_rule, binary_rule, type_of, faults, numbered_field, resolved}
+use Rattle.c0_meaning.specs.Expression.{Verdict, type_given, own, rule_on_one, rule_on_both, is_lvalue, is_local, span_of, is_null, is_pointer, is_null_for, type_asked, asked_faults, compares, operand_type, member, target, place_field_rule, arrow_rule, index_rule, address_rule, binary_rule, type_of, faults, numbered_field, resolved}
 use Rattle.c0_body_check.specs.Check.{SettlesType, Checks, ChecksAsked}
 use Rattle.c0_name_check.proofs.FaultsMet.{kept_all-append}
 
@@ -59,15 +59,15 @@ numbered_field-span f (Some p) = refl
 
 pub field_node : (env : Env) (s at : Span) (e : CExpr) (f f' : CName) (place : Bool) (t o : Option Ty) (found : Option (ℕ × Typed)) (m n n' : Option Fault) (new : CExpr) (r : Option Ty)
     → Checks env e t m n new → o ≡ t → place ≡ is_lvalue e → at ≡ span_of e → found ≡ member env o f.text → f' ≡ numbered_field f found
-    → SettlesType r n n' (one o (place_field_rule s place at f'.span found)) → Checks env (field s e f) r m n' (field s new f')
+    → SettlesType r n n' (rule_on_one o (place_field_rule s place at f'.span found)) → Checks env (field s e f) r m n' (field s new f')
 field_node env s at e f f' place t o found m n n' new r w g p a h k q =
-    let rule : one o (place_field_rule s place at f'.span found) ≡ one t (place_field_rule s (is_lvalue e) (span_of e) f.span (member env t f.text)) =
-    ap (λ x. one o (place_field_rule s x at f'.span found)) p
-    ∙ (ap (λ x. one o (place_field_rule s (is_lvalue e) x f'.span found)) a
-    ∙ (ap (λ x. one o (place_field_rule s (is_lvalue e) (span_of e) x found)) (ap (λ x. x.span) k ∙ numbered_field-span f found)
-    ∙ (ap (λ x. one o (place_field_rule s (is_lvalue e) (span_of e) f.span x)) h
-    ∙ ap (λ x. one x (place_field_rule s (is_lvalue e) (span_of e) f.span (member env x f.text))) g))) in
-    let d = one_part env e (λ x. one x (place_field_rule s (is_lvalue e) (span_of e) f.span (member env x f.text))) t m n n' new r _ w rule q in (
+    let rule : rule_on_one o (place_field_rule s place at f'.span found) ≡ rule_on_one t (place_field_rule s (is_lvalue e) (span_of e) f.span (member env t f.text)) =
+    ap (λ x. rule_on_one o (place_field_rule s x at f'.span found)) p
+    ∙ (ap (λ x. rule_on_one o (place_field_rule s (is_lvalue e) x f'.span found)) a
+    ∙ (ap (λ x. rule_on_one o (place_field_rule s (is_lvalue e) (span_of e) x found)) (ap (λ x. x.span) k ∙ numbered_field-span f found)
+    ∙ (ap (λ x. rule_on_one o (place_field_rule s (is_lvalue e) (span_of e) f.span x)) h
+    ∙ ap (λ x. rule_on_one x (place_field_rule s (is_lvalue e) (span_of e) f.span (member env x f.text))) g))) in
+    let d = one_part env e (λ x. rule_on_one x (place_field_rule s (is_lvalue e) (span_of e) f.span (member env x f.text))) t m n n' new r _ w rule q in (
       d.0,
       d.1,
       ap (λ x. field s x f') w.2 ∙ ap (field s (resolved env e)) (k ∙ ap (numbered_field f) (h ∙ ap (λ x. member env x f.text) (g ∙ w.0))),
@@ -75,13 +75,13 @@ field_node env s at e f f' place t o found m n n' new r w g p a h k q =
 
 pub arrow_node : (env : Env) (s : Span) (e : CExpr) (f f' : CName) (t o b : Option Ty) (found : Option (ℕ × Typed)) (m n n' : Option Fault) (new : CExpr) (r : Option Ty)
     → Checks env e t m n new → o ≡ t → b ≡ target o → found ≡ member env b f.text → f' ≡ numbered_field f found
-    → SettlesType r n n' (one o (arrow_rule s f'.span found)) → Checks env (arrow s e f) r m n' (arrow s new f')
+    → SettlesType r n n' (rule_on_one o (arrow_rule s f'.span found)) → Checks env (arrow s e f) r m n' (arrow s new f')
 arrow_node env s e f f' t o b found m n n' new r w g l h k q =
     let there : found ≡ member env (target o) f.text = h ∙ ap (λ x. member env x f.text) l in
-    let rule : one o (arrow_rule s f'.span found) ≡ one t (arrow_rule s f.span (member env (target t) f.text)) =
-    ap (λ x. one o (arrow_rule s x found)) (ap (λ x. x.span) k ∙ numbered_field-span f found)
-    ∙ (ap (λ x. one o (arrow_rule s f.span x)) there ∙ ap (λ x. one x (arrow_rule s f.span (member env (target x) f.text))) g) in
-    let d = one_part env e (λ x. one x (arrow_rule s f.span (member env (target x) f.text))) t m n n' new r _ w rule q in (
+    let rule : rule_on_one o (arrow_rule s f'.span found) ≡ rule_on_one t (arrow_rule s f.span (member env (target t) f.text)) =
+    ap (λ x. rule_on_one o (arrow_rule s x found)) (ap (λ x. x.span) k ∙ numbered_field-span f found)
+    ∙ (ap (λ x. rule_on_one o (arrow_rule s f.span x)) there ∙ ap (λ x. rule_on_one x (arrow_rule s f.span (member env (target x) f.text))) g) in
+    let d = one_part env e (λ x. rule_on_one x (arrow_rule s f.span (member env (target x) f.text))) t m n n' new r _ w rule q in (
       d.0,
       d.1,
       ap (λ x. arrow s x f') w.2 ∙ ap (arrow s (resolved env e)) (k ∙ ap (numbered_field f) (there ∙ ap (λ x. member env (target x) f.text) (g ∙ w.0))),
@@ -89,11 +89,11 @@ arrow_node env s e f f' t o b found m n n' new r w g l h k q =
 
 pub index_node : (env : Env) (s at : Span) (e i : CExpr) (place : Bool) (t o u p : Option Ty) (m n n' n'' : Option Fault) (new after : CExpr) (r : Option Ty)
     → Checks env e t m n new → Checks env i u n n' after → o ≡ t → p ≡ u → place ≡ is_lvalue e → at ≡ span_of e
-    → SettlesType r n' n'' (both o p (index_rule s place at)) → Checks env (index s e i) r m n'' (index s new after)
+    → SettlesType r n' n'' (rule_on_both o p (index_rule s place at)) → Checks env (index s e i) r m n'' (index s new after)
 index_node env s at e i place t o u p m n n' n'' new after r w v g h b a q =
-    let rule : both o p (index_rule s place at) ≡ both o p (index_rule s (is_lvalue e) (span_of e)) =
-    ap (λ x. both o p (index_rule s x at)) b ∙ ap (λ x. both o p (index_rule s (is_lvalue e) x)) a in
-    let d = two_parts env (faults env e) (faults env i) (λ x y. both x y (index_rule s (is_lvalue e) (span_of e))) o (type_of env e) p (type_of env i) m n' n'' r _
+    let rule : rule_on_both o p (index_rule s place at) ≡ rule_on_both o p (index_rule s (is_lvalue e) (span_of e)) =
+    ap (λ x. rule_on_both o p (index_rule s x at)) b ∙ ap (λ x. rule_on_both o p (index_rule s (is_lvalue e) x)) a in
+    let d = two_parts env (faults env e) (faults env i) (λ x y. rule_on_both x y (index_rule s (is_lvalue e) (span_of e))) o (type_of env e) p (type_of env i) m n' n'' r _
     (v.1 ∙ ap (λ x. kept_all x (faults env i)) w.1) (g ∙ w.0) (h ∙ v.0) rule q in (
       d.0,
       d.1,
@@ -102,12 +102,12 @@ index_node env s at e i place t o u p m n n' n'' new after r w v g h b a q =
 
 pub address_node : (env : Env) (s at : Span) (e : CExpr) (place local : Bool) (t : Option Ty) (m n n' : Option Fault) (new : CExpr) (r : Option Ty)
     → Checks env e t m n new → place ≡ is_lvalue e → local ≡ is_local env e → at ≡ span_of e
-    → SettlesType r n n' (one t (address_rule place local at)) → Checks env (address s e) r m n' (address s new)
+    → SettlesType r n n' (rule_on_one t (address_rule place local at)) → Checks env (address s e) r m n' (address s new)
 address_node env s at e place local t m n n' new r w p l a q =
-    let rule : one t (address_rule place local at) ≡ one t (address_rule (is_lvalue e) (is_local env e) (span_of e)) =
-    ap (λ x. one t (address_rule x local at)) p
-    ∙ (ap (λ x. one t (address_rule (is_lvalue e) x at)) l ∙ ap (λ x. one t (address_rule (is_lvalue e) (is_local env e) x)) a) in
-    let d = one_part env e (λ x. one x (address_rule (is_lvalue e) (is_local env e) (span_of e))) t m n n' new r _ w rule q in
+    let rule : rule_on_one t (address_rule place local at) ≡ rule_on_one t (address_rule (is_lvalue e) (is_local env e) (span_of e)) =
+    ap (λ x. rule_on_one t (address_rule x local at)) p
+    ∙ (ap (λ x. rule_on_one t (address_rule (is_lvalue e) x at)) l ∙ ap (λ x. rule_on_one t (address_rule (is_lvalue e) (is_local env e) x)) a) in
+    let d = one_part env e (λ x. rule_on_one x (address_rule (is_lvalue e) (is_local env e) (span_of e))) t m n n' new r _ w rule q in
     (d.0, d.1, ap (address s) w.2)
 
 null_has_none : (env : Env) (e : CExpr) → is_null e ≡ true → type_of env e ≡ None
@@ -136,7 +136,7 @@ plain b x y e = sym (ap (λ v. if v then x else y) e)
 pub null_left_node : (env : Env) (s : Span) (o : BinaryOp) (a b : CExpr) (u l r' p q : Option Ty) (m n n' n'' : Option Fault) (new after : CExpr) (r : Option Ty)
     → ((m : Option Fault) (fs gs : List Fault) → kept_all (kept_all m fs) gs ≡ kept_all (kept_all m gs) fs)
     → is_null a ≡ true → Checks env b u m n after → q ≡ operand_type o u → ChecksAsked env q a l n n' new → p ≡ l → r' ≡ u
-    → SettlesType r n' n'' (both p r' (binary_rule s o)) → Checks env (binary s o a b) r m n'' (binary s o new after)
+    → SettlesType r n' n'' (rule_on_both p r' (binary_rule s o)) → Checks env (binary s o a b) r m n'' (binary s o new after)
 null_left_node env s o a b u l r' p q m n n' n'' new after r swap h v e w f g k =
     let ask : q ≡ operand_type o (type_of env b) = e ∙ ap (operand_type o) v.0 in
     let free = unfilled_beside env o a b h in
@@ -145,7 +145,7 @@ null_left_node env s o a b u l r' p q m n n' n'' new after r swap h v e w f g k 
     let met : n' ≡ kept_all (kept_all m fs) gs =
     w.1 ∙ (ap (λ x. kept_all n (asked_faults x a (faults env a))) ask
     ∙ (ap (λ x. kept_all x fs) (v.1 ∙ ap (kept_all m) (plain _ [] (faults env b) free)) ∙ swap m gs fs)) in
-    let d = two_parts env fs gs (λ x y. both x y (binary_rule s o)) p _ r' _ m n' n'' r _ met
+    let d = two_parts env fs gs (λ x y. rule_on_both x y (binary_rule s o)) p _ r' _ m n' n'' r _ met
     (f ∙ (w.0 ∙ ap (λ x. type_asked x a (type_of env a)) ask)) (g ∙ (v.0 ∙ plain _ (operand_type o (type_of env a)) (type_of env b) free)) refl k in (
       d.0,
       d.1,
@@ -155,7 +155,7 @@ null_left_node env s o a b u l r' p q m n n' n'' new after r swap h v e w f g k 
 -- the left operand is no null: it is checked first
 pub no_null_left_node : (env : Env) (s : Span) (o : BinaryOp) (a b : CExpr) (t l r' p q : Option Ty) (m n n' n'' : Option Fault) (new after : CExpr) (r : Option Ty)
     → is_null a ≡ false → Checks env a t m n new → q ≡ operand_type o t → ChecksAsked env q b l n n' after → p ≡ t → r' ≡ l
-    → SettlesType r n' n'' (both p r' (binary_rule s o)) → Checks env (binary s o a b) r m n'' (binary s o new after)
+    → SettlesType r n' n'' (rule_on_both p r' (binary_rule s o)) → Checks env (binary s o a b) r m n'' (binary s o new after)
 no_null_left_node env s o a b t l r' p q m n n' n'' new after r h v e w f g k =
     let ask : q ≡ operand_type o (type_of env a) = e ∙ ap (operand_type o) v.0 in
     let free = unfilled (operand_type o (type_of env b)) a h in
@@ -164,7 +164,7 @@ no_null_left_node env s o a b t l r' p q m n n' n'' new after r h v e w f g k =
     let met : n' ≡ kept_all (kept_all m fs) gs =
     w.1 ∙ (ap (λ x. kept_all n (asked_faults x b (faults env b))) ask
     ∙ ap (λ x. kept_all x gs) (v.1 ∙ ap (kept_all m) (plain _ [] (faults env a) free))) in
-    let d = two_parts env fs gs (λ x y. both x y (binary_rule s o)) p _ r' _ m n' n'' r _ met
+    let d = two_parts env fs gs (λ x y. rule_on_both x y (binary_rule s o)) p _ r' _ m n' n'' r _ met
     (f ∙ (v.0 ∙ plain _ (operand_type o (type_of env b)) (type_of env a) free)) (g ∙ (w.0 ∙ ap (λ x. type_asked x b (type_of env b)) ask)) refl k in (
       d.0,
       d.1,

@@ -7,7 +7,7 @@ use Rattle.c0_meaning.specs.Ty.{Ty, pointer, ty_of}
 use Rattle.c0_meaning.specs.Env.{Env, Callee, callee_named}
 use Rattle.c0_meaning.specs.Fault.{Fault, kept_all, TOO_DEEP}
 use Rattle.c0_meaning.specs.DeclaredTypes.{fault_if, type_faults}
-use Rattle.c0_meaning.specs.Expression.{own, one, both, is_lvalue, span_of, type_asked, asked_faults, type_of, faults}
+use Rattle.c0_meaning.specs.Expression.{own, rule_on_one, rule_on_both, is_lvalue, span_of, type_asked, asked_faults, type_of, faults}
 use Rattle.c0_meaning.specs.Statement.{MAX_NEED, same_rule, given_verdict, given_faults, deep_faults, left_rule, left_type, left_faults, result_faults, callee_faults, parameter_types, first_of, rest_of, args_faults, assign_need, call_need, new_need, assign_faults, call_faults, new_faults}
 use Rattle.c0_body_check.specs.Check.{SettlesType, Checks, ChecksAsked}
 use Rattle.c0_body_check.specs.Stmts.{ChecksGiven, ChecksTested, ChecksLeft, ChecksArgs}
@@ -16,10 +16,10 @@ use Rattle.c0_name_check.proofs.FaultsMet.{kept_all-append, two_met}
 use Rattle.c0_body_check.proofs.InPlace.{rest, rest-next}
 
 pub given_part : (env : Env) (want a w b : Option Ty) (e : CExpr) (s : Span) (m n n' : Option Fault) (new : CExpr)
-    → ChecksAsked env want e a m n new → w ≡ want → b ≡ a → s ≡ span_of e → n' ≡ kept_all n (own (both w b (same_rule s))) → ChecksGiven env want e m n' new
+    → ChecksAsked env want e a m n new → w ≡ want → b ≡ a → s ≡ span_of e → n' ≡ kept_all n (own (rule_on_both w b (same_rule s))) → ChecksGiven env want e m n' new
 given_part env want a w b e s m n n' new c p q k met =
-    let rule : both w b (same_rule s) ≡ given_verdict env want e =
-    ap (λ x. both x b (same_rule s)) p ∙ (ap (λ x. both want x (same_rule s)) (q ∙ c.0) ∙ ap (λ x. both want (type_asked want e (type_of env e)) (same_rule x)) k) in (
+    let rule : rule_on_both w b (same_rule s) ≡ given_verdict env want e =
+    ap (λ x. rule_on_both x b (same_rule s)) p ∙ (ap (λ x. rule_on_both want x (same_rule s)) (q ∙ c.0) ∙ ap (λ x. rule_on_both want (type_asked want e (type_of env e)) (same_rule x)) k) in (
       two_met m n n' (asked_faults want e (faults env e)) (own (given_verdict env want e)) c.1 (met ∙ ap (λ x. kept_all n (own x)) rule),
       c.2,
     )
@@ -33,11 +33,11 @@ tested_part env want e s deep m n n' new c k d met = (
 )
 
 pub left_part : (env : Env) (p : CExpr) (place : Bool) (s : Span) (t r : Option Ty) (m n n' : Option Fault) (new : CExpr)
-    → Checks env p t m n new → place ≡ is_lvalue p → s ≡ span_of p → SettlesType r n n' (one t (left_rule place s)) → ChecksLeft env p r m n' new
+    → Checks env p t m n new → place ≡ is_lvalue p → s ≡ span_of p → SettlesType r n n' (rule_on_one t (left_rule place s)) → ChecksLeft env p r m n' new
 left_part env p place s t r m n n' new c k l q =
-    let rule : one t (left_rule place s) ≡ one t (left_rule (is_lvalue p) (span_of p)) =
-    ap (λ x. one t (left_rule x s)) k ∙ ap (λ x. one t (left_rule (is_lvalue p) x)) l in
-    let d = one_part env p (λ x. one x (left_rule (is_lvalue p) (span_of p))) t m n n' new r _ c rule q in
+    let rule : rule_on_one t (left_rule place s) ≡ rule_on_one t (left_rule (is_lvalue p) (span_of p)) =
+    ap (λ x. rule_on_one t (left_rule x s)) k ∙ ap (λ x. rule_on_one t (left_rule (is_lvalue p) x)) l in
+    let d = one_part env p (λ x. rule_on_one x (left_rule (is_lvalue p) (span_of p))) t m n n' new r _ c rule q in
     (d.0, d.1, c.2)
 
 -- what a list of types asks of the argument after some

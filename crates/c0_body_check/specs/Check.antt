@@ -11,7 +11,7 @@ use Rattle.c0_meaning.specs.declared.form.Form.{Form}
 use Rattle.c0_meaning.specs.Form.{form_view, found_view}
 use Rattle.c0_name_check.specs.declared.met.Fault.{Fault as MetFault}
 use Rattle.c0_name_check.specs.Met.{met_view}
-use Rattle.c0_meaning.specs.Expression.{Verdict, one, both, type_given, own, type_of, faults, resolved, type_asked, asked_faults}
+use Rattle.c0_meaning.specs.Expression.{Verdict, rule_on_one, rule_on_both, type_given, own, type_of, faults, resolved, type_asked, asked_faults}
 
 -- a type, and the least fault met before and after, are as a rule says
 abbrev pub SettlesType : Option Ty → Option Fault → Option Fault → Verdict → Type 0
@@ -23,11 +23,11 @@ IsByRule found old new v = SettlesType (found_view found) (met_view old) (met_vi
 
 -- a rule of the type of one part
 abbrev pub by_one : Form → (Ty → Verdict) → Verdict
-by_one part rule = one (form_view part) rule
+by_one part rule = rule_on_one (form_view part) rule
 
 -- a rule of the types of two parts
 abbrev pub by_both : Form → Form → (Ty → Ty → Verdict) → Verdict
-by_both left right rule = both (form_view left) (form_view right) rule
+by_both left right rule = rule_on_both (form_view left) (form_view right) rule
 
 -- an expression is checked: its type comes out, its faults are met, and its names are resolved
 abbrev pub Checks : Env → CExpr → Option Ty → Option Fault → Option Fault → CExpr → Type 0

@@ -51,7 +51,7 @@ pub fn check_tested(scope: &Scope<'_>, want: Found<'_>, expr: &mut Expr, least: 
 
 // A left side: whether it is a place, where it stands, and its type.
 fn left<'a>(place: bool, span: Span, found: Found<'a>, least: &mut Option<Fault>) -> Found<'a>
-    ensures { SettlesType (found_view result) (met_view least.old) (met_view least.new) (expression.one (found_view found.entry) (spec.left_rule place span)) }
+    ensures { SettlesType (found_view result) (met_view least.old) (met_view least.new) (expression.rule_on_one (found_view found.entry) (spec.left_rule place span)) }
 {
     let form = found.form();
     if is_nothing(form) {

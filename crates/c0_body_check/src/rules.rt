@@ -193,7 +193,7 @@ pub fn arrow<'a>(
 
 /// `*e`.
 pub fn deref<'a>(span: Span, part: Form<'a>, least: &mut Option<Fault>) -> Found<'a>
-    ensures settles { SettlesType (found_view result) (met_view least.old) (met_view least.new) (spec.one (form_view part.entry) (spec.deref_rule span)) }
+    ensures settles { SettlesType (found_view result) (met_view least.old) (met_view least.new) (spec.rule_on_one (form_view part.entry) (spec.deref_rule span)) }
     ensures declared { IsTrue (is_declared result) }
 {
     match part {
@@ -212,7 +212,7 @@ pub fn address<'a>(
     least: &mut Option<Fault>,
 ) -> Found<'a>
     requires { IsTrue place → IsTrue (is_declared part) }
-    ensures { SettlesType (found_view result) (met_view least.old) (met_view least.new) (spec.one (found_view part.entry) (spec.address_rule place local at)) }
+    ensures { SettlesType (found_view result) (met_view least.old) (met_view least.new) (spec.rule_on_one (found_view part.entry) (spec.address_rule place local at)) }
 {
     match part {
         Found::Nothing => Found::Nothing,
@@ -233,7 +233,7 @@ pub fn address<'a>(
 
 /// `-e` and `!e`.
 pub fn unary<'a>(span: Span, op: UnaryOp, part: Form<'_>, least: &mut Option<Fault>) -> Found<'a>
-    ensures { SettlesType (found_view result) (met_view least.old) (met_view least.new) (spec.one (form_view part.entry) (spec.unary_rule span op)) }
+    ensures { SettlesType (found_view result) (met_view least.old) (met_view least.new) (spec.rule_on_one (form_view part.entry) (spec.unary_rule span op)) }
 {
     match op {
         UnaryOp::Negate => match part {

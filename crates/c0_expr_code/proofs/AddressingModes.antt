@@ -22,8 +22,8 @@ use Rattle.c0_meaning.specs.Sizes.{words_before}
 use Rattle.c0_meaning.specs.Addresses.{words_to, words_to_part}
 use Rattle.c0_expr_code.specs.Code.{AddressingMode, is_near, low, high, access_code, load_code, frame_back}
 use Rattle.c0_expr_code.specs.Relation.{layout, StateIsTyped, Ready, KeepsRegisters, Area, Evaluates, HoldsValue, HoldsAddress, Source}
-use Rattle.c0_expr_code.proofs.Words.{near_is, far_is}
-use Rattle.c0_expr_code.proofs.Offsets.{one_word, room as part_room, room_from, Seen, region_seen, scalar_held}
+use Rattle.c0_expr_code.proofs.WordsOfValues.{near_is, far_is}
+use Rattle.c0_expr_code.proofs.PartsAtOffsets.{one_word, room as part_room, room_from, Seen, region_seen, scalar_held}
 use Rattle.c0_expr_code.proofs.SideBySide.{same_read, other_read, keeps_all, keeps_on, keeps_in, keeps_put, keeps_one, keeps_low, source_other, Answered, answered, binds, arrives}
 use Rattle.c0_expr_code.proofs.FramePlaces.{base_of}
 use Rattle.c0_meaning.specs.Ty as ty

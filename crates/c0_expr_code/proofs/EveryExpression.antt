@@ -19,7 +19,7 @@ use Rattle.c0_tree.specs.Size.{need, binary_need, nodes}
 use Rattle.c0_meaning.specs.Ty.{Ty, is_scalar}
 use Rattle.c0_meaning.specs.Ty as ty
 use Rattle.c0_meaning.specs.Env.{Typed}
-use Rattle.c0_meaning.specs.Words.{fields_named, words}
+use Rattle.c0_meaning.specs.Words.{shape_fields, words}
 use Rattle.c0_meaning.specs.Sizes.{words_before}
 use Rattle.c0_meaning.specs.Expression.{is_lvalue, target}
 use Rattle.c0_meaning.specs.Judgement.{IsArithmetic, add, sub, mul, div, rem, IsOrdering, lt, le, gt, ge, IsEquality, eq, ne, IsLogical, and, or}
@@ -28,7 +28,7 @@ use Rattle.c0_meaning.specs.Value.{Region, globals, heap, locals, Location, Valu
 use Rattle.c0_meaning.specs.Value as value
 use Rattle.c0_meaning.specs.State.{C0State, read}
 use Rattle.c0_meaning.specs.Operators.{Failure, NullUse, Bounds, faulted, stuck, on_unary, on_binary}
-use Rattle.c0_meaning.specs.Evaluation.{Costed, costs, at_no_cost, paying, ◌>>=◌, variable_location, element_of, indexed, load_from, field_of, pointed, both, value_of, place_of}
+use Rattle.c0_meaning.specs.Evaluation.{Costed, costs, at_no_cost, paying, ◌>>=◌, variable_location, element_of, indexed, load_from, field_of, pointed, both_sides, value_of, place_of}
 use Rattle.c0_meaning.specs.TypeAt.{type_at}
 use Rattle.c0_meaning.specs.TypedState.{types_of, Fits, PathLeads}
 use Rattle.cvm_words.specs.Words.{word_of}
@@ -37,19 +37,19 @@ use Rattle.c0_expr_code.specs.Bases.{Bases, types_in, word_of_scalar}
 use Rattle.c0_expr_code.specs.Code.{fields_in, element_words, length_in, AddressingMode, Made, constant_code, or_code, access_code, load_code, operand_code, operand_register, at_place, constant, global_address, local_address, register_made, register_of_variable, local_made, variable_made, displaced, target_address, tested_address, element_address, operator_code, two_code, one_code, logic_code, negative_made, unary_made, Immediate, immediate, immediate_of, operator_made, sum_made, is_never_zero, divisor_code, division_made, binary_made, field_made, made}
 use Rattle.c0_expr_code.specs.Relation.{layout, StateIsTyped, Ready, Area, Evaluates, HoldsValue, HoldsAddress, Source, nought, its, far, ValueRuns, OperandRuns, PlaceRuns, Claims, Right}
 use Rattle.c0_expr_code.proofs.CodeRuns.{Machine, later, stays, code_front, code_back}
-use Rattle.c0_expr_code.proofs.Paths.{leads_from_on, length_fits, typed_there}
-use Rattle.c0_expr_code.proofs.Words.{word_pos}
+use Rattle.c0_expr_code.proofs.OnePartMore.{leads_from_on, length_fits, typed_there}
+use Rattle.c0_expr_code.proofs.WordsOfValues.{word_pos}
 use Rattle.c0_expr_code.proofs.SideBySide.{keeps_low, ready_on, more, paid, node, binds, arrives}
 use Rattle.c0_expr_code.proofs.AddressingModes.{found, loads, addresses, global_place, local_place}
-use Rattle.c0_expr_code.proofs.Nodes.{constant_gives, nothing_gives, register_operand, register_value, targets, fields, part_leads}
+use Rattle.c0_expr_code.proofs.NodesEvaluate.{constant_gives, nothing_gives, register_operand, register_value, targets, fields, part_leads}
 use Rattle.c0_expr_code.proofs.FramePlaces.{base_of, base_read, same_place, field_based, element_of_based, based, or_left, or_right, both_true}
 use Rattle.c0_expr_code.specs.Reads.{reads, reads_to_find, Covers}
-use Rattle.c0_expr_code.proofs.Elements.{indexes}
-use Rattle.c0_expr_code.proofs.Lengths.{value_length}
+use Rattle.c0_expr_code.proofs.ElementsTested.{indexes}
+use Rattle.c0_expr_code.proofs.ShortExpressions.{value_length}
 use Rattle.c0_expr_code.proofs.NodeTypes.{type_is, literal_is, small_literal, KnownAs, negative_known, known_is, null_known}
-use Rattle.c0_expr_code.proofs.Operators.{Finishes, FinishesFor, Answers, any_answer, IsRing, twos, ones, sums, orders, equals, quotients, remainders, negatives, negations, Skip, skips_and, skips_or, logics}
-use Rattle.c0_expr_code.proofs.Operators as ring
-use Rattle.c0_expr_code.proofs.Immediates.{With, adds_with, adds_left, subtracts_with, below_with, at_most_with, at_least_with, equals_with, differs_with}
+use Rattle.c0_expr_code.proofs.OperatorsOnRegisters.{Finishes, FinishesFor, Answers, any_answer, IsRing, twos, ones, sums, orders, equals, quotients, remainders, negatives, negations, Skip, skips_and, skips_or, logics}
+use Rattle.c0_expr_code.proofs.OperatorsOnRegisters as ring
+use Rattle.c0_expr_code.proofs.ConstantOperands.{With, adds_with, adds_left, subtracts_with, below_with, at_most_with, at_least_with, equals_with, differs_with}
 
 binary_some : (o : BinaryOp) (a b : ℕ) → 1 ≤ a → 1 ≤ binary_need o a b
 binary_some And a b h = omega arith
@@ -186,7 +186,7 @@ module _ (w : World) (sc : Scope) (p : Bases) (live : ℕ → Bool) (s : C0State
 
   -- fields
   field_runs : (place : ℕ → AddressingMode) (need own : ℕ) (local : Bool) (x : List ℕ) (g : CName) (t : Ty) (u : Option Ty) (e : Costed Location) → 1 ≤ need
-      → u ≡ Some (ty.named x) → slice_get (types_of (fields_named sc.env.structs x)) g.number ≡ Some t
+      → u ≡ Some (ty.named x) → slice_get (types_of (shape_fields sc.env.structs x)) g.number ≡ Some t
       → AddressRuns place need local (ty.named x) own e →
       AddressRuns (λ r. displaced (4 * words_before sc.env.structs (fields_in sc.env.structs u) g.number) (place r)) need local t own (field_of g e)
   field_runs place need own local x g t u e some q h runs r n c k idle ready code lo hi =
@@ -402,7 +402,7 @@ module _ (w : World) (sc : Scope) (p : Bases) (live : ℕ → Bool) (s : C0State
   arithmetic_right : (o : BinaryOp) → IsArithmetic o → (a b : Made) (na nb : ℕ) (local : Bool) (x y : Costed Value) (l : Costed Location) → 1 ≤ na
       → 1 ≤ nb → OperandRuns w sc p live s a na ty.int x → OperandRuns w sc p live s b nb ty.int y
       → ((k : ℕ) → a.known ≡ Some k → KnownAs sc p ty.int k x) → ((k : ℕ) → b.known ≡ Some k → KnownAs sc p ty.int k y)
-      → Claims w sc p live s (binary_made sc o a b) (binary_need o na nb) false local ty.int (paying 1 (both o x y)) l
+      → Claims w sc p live s (binary_made sc o a b) (binary_need o na nb) false local ty.int (paying 1 (both_sides o x y)) l
   arithmetic_right _ add a b na nb local x y l ha hb oa ob ka kb = sums_right (immediate_of Add b.known) (immediate_of Add a.known) a b na nb local x y l ha hb oa ob
       (knows_int Add ty.int b.known y (on_binary Add) kb (λ d r v nz fv g e. adds_with w sc p live s f area is_typed d r v nz fv g e)) (knows_int Add ty.int a.known x (λ v u. on_binary Add u v) ka (λ d r v nz fv g e. adds_left w sc p live s f area is_typed d r v nz fv g e))
   arithmetic_right _ sub a b na nb local x y l ha hb oa ob ka kb = operators_right (immediate_of Sub b.known) Sub ty.int ty.int a b na nb local x y l refl ha hb oa ob (λ d r nz. sums w sc p live s f area is_typed Sub d r nz ring.sub)
@@ -418,7 +418,7 @@ module _ (w : World) (sc : Scope) (p : Bases) (live : ℕ → Bool) (s : C0State
   orders_right : (o : BinaryOp) → IsOrdering o → (a b : Made) (na nb : ℕ) (local : Bool) (x y : Costed Value) (l : Costed Location) → 1 ≤ na → 1 ≤ nb
       → OperandRuns w sc p live s a na ty.int x → OperandRuns w sc p live s b nb ty.int y
       → ((k : ℕ) → b.known ≡ Some k → KnownAs sc p ty.int k y)
-      → Claims w sc p live s (binary_made sc o a b) (binary_need o na nb) false local ty.bool (paying 1 (both o x y)) l
+      → Claims w sc p live s (binary_made sc o a b) (binary_need o na nb) false local ty.bool (paying 1 (both_sides o x y)) l
   orders_right _ lt a b na nb local x y l ha hb oa ob kb = operators_right (immediate_of Lt b.known) Lt ty.int ty.bool a b na nb local x y l refl ha hb oa ob (λ d r nz. orders w sc p live s f area is_typed Lt d r nz lt)
       (knows_int Lt ty.bool b.known y (on_binary Lt) kb (λ d r v nz fv g e. below_with w sc p live s f area is_typed d r v nz fv g e))
   orders_right _ le a b na nb local x y l ha hb oa ob kb = operators_right (immediate_of Le b.known) Le ty.int ty.bool a b na nb local x y l refl ha hb oa ob (λ d r nz. orders w sc p live s f area is_typed Le d r nz le)
@@ -431,7 +431,7 @@ module _ (w : World) (sc : Scope) (p : Bases) (live : ℕ → Bool) (s : C0State
       → (a b : Made) (na nb : ℕ) (local : Bool) (x y : Costed Value) (l : Costed Location) → 1 ≤ na → 1 ≤ nb → OperandRuns w sc p live s a na t x
       → OperandRuns w sc p live s b nb t y
       → ((k : ℕ) → b.known ≡ Some k → KnownAs sc p t k y)
-      → Claims w sc p live s (binary_made sc o a b) (binary_need o na nb) false local ty.bool (paying 1 (both o x y)) l
+      → Claims w sc p live s (binary_made sc o a b) (binary_need o na nb) false local ty.bool (paying 1 (both_sides o x y)) l
   equals_right _ eq t z a b na nb local x y l ha hb oa ob kb = operators_right (immediate_of Eq b.known) Eq t ty.bool a b na nb local x y l z ha hb oa ob (λ d r nz. equals w sc p live s f area is_typed Eq t d r z nz eq)
       (knows_scalar Eq t b.known y (on_binary Eq) kb (λ d r v nz fv g e. equals_with w sc p live s f area is_typed d r t v nz z fv g e))
   equals_right _ ne t z a b na nb local x y l ha hb oa ob kb = operators_right (immediate_of Ne b.known) Ne t ty.bool a b na nb local x y l z ha hb oa ob (λ d r nz. equals w sc p live s f area is_typed Ne t d r z nz ne)
@@ -439,7 +439,7 @@ module _ (w : World) (sc : Scope) (p : Bases) (live : ℕ → Bool) (s : C0State
 
   logics_right : (o : BinaryOp) → IsLogical o → (a b : Made) (na nb : ℕ) (local : Bool) (x y : Costed Value) (l : Costed Location) → 1 ≤ na → 1 ≤ nb
       → ((r : ℕ) → length (b.value r r) < 32768) → ValueRuns w sc p live s a na ty.bool x → ValueRuns w sc p live s b nb ty.bool y
-      → Claims w sc p live s (binary_made sc o a b) (binary_need o na nb) false local ty.bool (paying 1 (both o x y)) l
+      → Claims w sc p live s (binary_made sc o a b) (binary_need o na nb) false local ty.bool (paying 1 (both_sides o x y)) l
   logics_right _ and a b na nb local x y l ha hb short va vb = valued (binary_made sc And a b) (max na nb) local ty.bool _ l refl (λ d r n c k idle ready code lo hi nz no1.
       logics w sc p live s f area is_typed (λ z. Beq r 0 z) false a b na nb d r n c k x y (λ b. if b then y else at_no_cost (Ok (bool false))) idle lo (omega arith) (omega arith) hb nz no1 ready code (λ m there. let few : length (b.value r r) % 2 ^ 16 ≡ length (b.value r r) = let z = short r in omega (arith, z) in subst (λ v. Skip w sc p live s f area is_typed (Beq r 0 v) false r (length (b.value r r)) m k) (sym few) (skips_and w sc p live s f area is_typed r (length (b.value r r)) m k idle (short r) (subst (λ v. w.code m ≡ Some (Beq r 0 v)) few there))) refl refl va vb)
   logics_right _ or a b na nb local x y l ha hb short va vb = valued (binary_made sc Or a b) (max na nb) local ty.bool _ l refl (λ d r n c k idle ready code lo hi nz no1.
@@ -468,11 +468,11 @@ module _ (w : World) (sc : Scope) (p : Bases) (live : ℕ → Bool) (s : C0State
       let part = right e (ty.named x) h (omega arith) cover in
       placed _ (need e) true (is_frame_place e) d.ty 0 (field_of g (place_of e s)) (need_some e) (omega arith)
       (λ q u l y. cover (base_of l.path) (base_read (reads e) l.path (field_based (reads e) g (place_of e s) (based e s q) u l y)))
-      (field_runs (λ r. (made sc e).place r) (need e) 0 (is_frame_place e) x g d.ty (type_at sc.env e) (place_of e s) (need_some e) (type_is sc.env e (ty.named x) h) (typed_there (fields_named sc.env.structs x) g.number d q) (part.place pl (stands_not e (ty.named x) h pl refl)))
+      (field_runs (λ r. (made sc e).place r) (need e) 0 (is_frame_place e) x g d.ty (type_at sc.env e) (place_of e s) (need_some e) (type_is sc.env e (ty.named x) h) (typed_there (shape_fields sc.env.structs x) g.number d q) (part.place pl (stands_not e (ty.named x) h pl refl)))
   right _ _ (a_target_field {e = e} {f = g} {x = x} {d = d} h q) few cover =
       let part = right e (ty.pointer (ty.named x)) h (omega arith) cover in
       placed _ (need e) true false d.ty 2 (field_of g (pointed (value_of e s))) (need_some e) (omega arith) (λ q. absurd (cc))
-      (field_runs (λ r. target_address sc (made sc e) r) (need e) 2 false x g d.ty (target (type_at sc.env e)) (pointed (value_of e s)) (need_some e) (ap target (type_is sc.env e (ty.pointer (ty.named x)) h)) (typed_there (fields_named sc.env.structs x) g.number d q) (target_runs (made sc e) (need e) (ty.named x) (value_of e s) (part.operand refl) (need_some e)))
+      (field_runs (λ r. target_address sc (made sc e) r) (need e) 2 false x g d.ty (target (type_at sc.env e)) (pointed (value_of e s)) (need_some e) (ap target (type_is sc.env e (ty.pointer (ty.named x)) h)) (typed_there (shape_fields sc.env.structs x) g.number d q) (target_runs (made sc e) (need e) (ty.named x) (value_of e s) (part.operand refl) (need_some e)))
   right _ t (an_element {e = e} {i = i} {n = n} pl h g) few cover =
       let part = right e (ty.array t n) h (omega arith) (λ m y. cover m (or_left (reads e m) (reads i m) y)) in
       let number = right i ty.int g (omega arith) (λ m y. cover m (or_right (reads e m) (reads i m) y)) in

@@ -4,11 +4,11 @@ use Rattle.std.specs.Prelude.{slice_get, replicate}
 use Rattle.c0_meaning.specs.Ty.{Ty}
 use Rattle.c0_meaning.specs.Ty as ty
 use Rattle.c0_meaning.specs.Env.{Shape}
-use Rattle.c0_meaning.specs.Words.{fields_named}
+use Rattle.c0_meaning.specs.Words.{shape_fields}
 use Rattle.c0_meaning.specs.Value.{Region, globals, heap, locals, Value, int, bool, null, at, group, Values, empty, part, change_nth, value_with}
 use Rattle.c0_meaning.specs.TypedState.{StoreTyping, types_of, PathLeads, LeadsFrom, PointsTo, Fits, AllFit, AreParts}
 use Rattle.c0_expr_code.specs.Laws.{with_more}
-use Rattle.c0_expr_code.proofs.Paths.{there}
+use Rattle.c0_expr_code.proofs.OnePartMore.{there}
 
 pub get_before : (types more : List Ty) (i : ℕ) (t : Ty) → slice_get types i ≡ Some t → slice_get (types ++ more) i ≡ Some t
 get_before [] more i t e = cc
@@ -29,7 +29,7 @@ module _ (structs : List Shape) (layout : StoreTyping) where
   pub put_fits : (t : Ty) (path : List ℕ) (u : Ty) (v x : Value) → PathLeads structs t path u → Fits structs layout t v → Fits structs layout u x
       → Fits structs layout t (value_with v path x)
   put_fits t [] u v x l h g = subst (λ w. Fits structs layout w x) (sym l) g
-  put_fits (ty.named y) (i ∷ path) u (group vs) x l h g = change_fits (types_of (fields_named structs y)) vs i l.0 (λ w. value_with w path x) h l.1 (λ v k. put_fits l.0 path u v x l.2 k g)
+  put_fits (ty.named y) (i ∷ path) u (group vs) x l h g = change_fits (types_of (shape_fields structs y)) vs i l.0 (λ w. value_with w path x) h l.1 (λ v k. put_fits l.0 path u v x l.2 k g)
   put_fits (ty.array t n) (i ∷ path) u (group vs) x l h g = change_fits (replicate n t) vs i t (λ w. value_with w path x) h (there t n i l.0) (λ v k. put_fits t path u v x l.1 k g)
   put_fits (ty.named y) (i ∷ path) u _ x l h g = absurd h
   put_fits (ty.array t n) (i ∷ path) u _ x l h g = absurd h
@@ -62,7 +62,7 @@ module _ (structs : List Shape) (layout : StoreTyping) (more : List Ty) where
     fits_more ty.bool (bool b) h = h
     fits_more (ty.pointer t) null h = tt
     fits_more (ty.pointer t) (at l) h = points_more l.region l.path t h
-    fits_more (ty.named x) (group vs) h = all_more (types_of (fields_named structs x)) vs h
+    fits_more (ty.named x) (group vs) h = all_more (types_of (shape_fields structs x)) vs h
     fits_more (ty.array t n) (group vs) h = all_more (replicate n t) vs h
     fits_more _ _ h = absurd h
 

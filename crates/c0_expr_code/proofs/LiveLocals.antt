@@ -5,15 +5,15 @@ use Rattle.std.proofs.lemmas.Bool.{cases_eq, cond-true, cond-false}
 use Rattle.mips_table.specs.Code.{put}
 use Rattle.c0_meaning.specs.Ty.{Ty, is_scalar}
 use Rattle.c0_meaning.specs.Ty as ty
-use Rattle.c0_meaning.specs.Words.{fields_named, words}
+use Rattle.c0_meaning.specs.Words.{shape_fields, words}
 use Rattle.c0_meaning.specs.Sizes.{words_before}
 use Rattle.c0_meaning.specs.Addresses.{words_to_part}
 use Rattle.c0_meaning.specs.Value.{Value, value_with}
 use Rattle.c0_meaning.specs.TypedState.{types_of, LeadsFrom}
 use Rattle.c0_expr_code.specs.Scope.{Scope}
 use Rattle.c0_expr_code.specs.Bases.{Bases, words_of_all, word_of_scalar, LocalsHeld}
-use Rattle.c0_expr_code.proofs.Offsets.{one_word, before_room}
-use Rattle.c0_expr_code.proofs.Stores.{put_word}
+use Rattle.c0_expr_code.proofs.PartsAtOffsets.{one_word, before_room}
+use Rattle.c0_expr_code.proofs.StoredAtPath.{put_word}
 
 pub put_same : (m : ℕ → ℕ) (a v : ℕ) → put m a v a ≡ v
 put_same m a v = cond-true (nat_eq a a) v (m a) (eq-eqb a a refl)
@@ -21,7 +21,7 @@ put_same m a v = cond-true (nat_eq a a) v (m a) (eq-eqb a a refl)
 pub put_other : (m : ℕ → ℕ) (a v y : ℕ) → y ≢ a → put m a v y ≡ m y
 put_other m a v y ne = cond-false (nat_eq y a) v (m y) (ne_eqb y a ne)
 
-module _ (sc : Scope) (p : Bases) (opened : (x : List ℕ) → words sc.env.structs (ty.named x) ≡ words_of_all sc.env.structs (types_of (fields_named sc.env.structs x))) where
+module _ (sc : Scope) (p : Bases) (opened : (x : List ℕ) → words sc.env.structs (ty.named x) ≡ words_of_all sc.env.structs (types_of (shape_fields sc.env.structs x))) where
   pub locals_same : (live : ℕ → Bool) (m m' : ℕ → ℕ) (a : ℕ) (ts : List Ty) (v : Value)
       → ((x : ℕ) → a ≤ x → x < a + words_of_all sc.env.structs ts → m' x ≡ m x) → LocalsHeld sc p live m a ts v → LocalsHeld sc p live m' a ts v
   locals_same live m m' a ts v e h = record {

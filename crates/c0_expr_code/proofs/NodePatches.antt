@@ -10,7 +10,7 @@ use Rattle.c0_expr_code.specs.Node.{node_made, node_test, order_test}
 use Rattle.c0_expr_code.specs.NodeJumps.{node_unpatched, NodePatchesAim, NodeJumpsAreWithin}
 use Rattle.c0_expr_code.specs.Setting.{Setting}
 use Rattle.c0_expr_code.specs.Test.{both_code, immediate_test_of}
-use Rattle.c0_expr_code.proofs.Patches.{AimsAt, eq, ne, compares, joins, over, plains, test_of}
+use Rattle.c0_expr_code.proofs.PatchedIsTestCode.{AimsAt, eq, ne, compares, joins, over, plains, test_of}
 use Rattle.c0_expr_code.proofs.UnpatchedTests.{compared_order}
 
 orders : (o : Plain) (m a b : Made) (s : Bool) (r : ℕ) → AimsAt (last_unpatched (order_test o m a b s 0 r)) (λ far. order_test o m a b s far r)

@@ -10,7 +10,7 @@ use Rattle.c0_expr_code.specs.Code.{Made}
 use Rattle.c0_expr_code.specs.EmitTest.{StandsUnpatched}
 use Rattle.c0_expr_code.specs.Jumps.{Unpatched, behind_unpatched, patched}
 use Rattle.c0_expr_code.specs.Test.{compare_test, immediate_test_of, plain_test}
-use Rattle.c0_expr_code.proofs.Patches.{AimsAt, assoc, compared, eq, map_append, plain_ends, shifted, test_of}
+use Rattle.c0_expr_code.proofs.PatchedIsTestCode.{AimsAt, assoc, compared, eq, map_append, plain_ends, shifted, test_of}
 use Rattle.c0_expr_code.proofs.UnpatchedTests.{compared_order, count, some}
 
 pub some_plain : (m : Made) (s : Bool) (r : ℕ) → 0 < length (plain_test m s 0 r)

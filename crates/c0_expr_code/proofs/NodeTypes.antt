@@ -28,7 +28,7 @@ use Rattle.c0_expr_code.specs.Scope.{Scope}
 use Rattle.c0_expr_code.specs.Code.{Made, at_place, register_made, register_of_variable, local_address, variable_made, negated, negative_made, Immediate, immediate_of, operator_made, sum_made, binary_made, made}
 use Rattle.c0_expr_code.specs.Bases.{Bases, word_of_scalar}
 use Rattle.c0_expr_code.specs.Relation.{layout}
-use Rattle.c0_expr_code.proofs.Words.{word_pos, word_negative}
+use Rattle.c0_expr_code.proofs.WordsOfValues.{word_pos, word_negative}
 
 arithmetic_gives : (o : BinaryOp) → IsArithmetic o → binary_type o ≡ ty.int
 arithmetic_gives _ add = refl

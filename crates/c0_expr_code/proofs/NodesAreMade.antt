@@ -21,7 +21,7 @@ use Rattle.c0_meaning.specs.Operators.{Bounds, NullUse}
 use Rattle.c0_meaning.specs.Sizes.{words_before}
 use Rattle.c0_meaning.specs.TypeAt.{type_at}
 use Rattle.c0_meaning.specs.TypedState.{types_of}
-use Rattle.c0_meaning.specs.Words.{fields_named, words}
+use Rattle.c0_meaning.specs.Words.{shape_fields, words}
 use Rattle.c0_typed.specs.declared.tree.Elements.{Elements}
 use Rattle.c0_typed.specs.Laws.{VariablesAreThose, FieldsAreThose, ElementsAreThose}
 use Rattle.c0_typed.specs.Tree.{TExpr}
@@ -34,9 +34,9 @@ use Rattle.c0_expr_code.specs.Emit.{scaled_at}
 use Rattle.c0_expr_code.specs.Known.{literal_of}
 use Rattle.c0_expr_code.specs.Node.{IsSameMade, division_node, divisor_test, element_place, global_place, local_place, target_place, node_made, node_test, NodesAreMade}
 use Rattle.c0_expr_code.specs.Test.{ImmediateTest, both_code, branch_code, compare_code, compare_test, immediate_test_of, plain_test, test_code}
-use Rattle.c0_expr_code.proofs.Emitted.{literal_is}
+use Rattle.c0_expr_code.proofs.OutermostPart.{literal_is}
 use Rattle.c0_expr_code.proofs.NodeTypes.{type_is}
-use Rattle.c0_expr_code.proofs.Shifts.{capped_shift}
+use Rattle.c0_expr_code.proofs.PowersOfTwo.{capped_shift}
 
 -- a node with no number written
 abbrev bare_made : Made → Made
@@ -245,10 +245,10 @@ module _ (sc : Scope) (variables : VariablesAreThose) (fields : FieldsAreThose) 
   variable_same kind.Primitive n d h = absurd (cc)
 
   -- a field of a struct
-  bytes_same : (x : List ℕ) (t : Option Ty) (n : ℕ) (d : Typed) → t ≡ Some (named x) → slice_get (fields_named sc.env.structs x) n ≡ Some d
+  bytes_same : (x : List ℕ) (t : Option Ty) (n : ℕ) (d : Typed) → t ≡ Some (named x) → slice_get (shape_fields sc.env.structs x) n ≡ Some d
       → field_bytes sc.env.structs t n ≡ 4 * words_before sc.env.structs (fields_in sc.env.structs t) n % 2 ^ 32
   bytes_same x t n d e h =
-      let c = length-map (fields_named sc.env.structs x) (λ (d : Typed). d.ty) in
+      let c = length-map (shape_fields sc.env.structs x) (λ (d : Typed). d.ty) in
       let b = below_length _ n d h in
       ap (λ (u : Option Ty). field_bytes sc.env.structs u n) e
       ∙ fields sc.env.structs (Some (named x)) n (omega (arith, b, c))

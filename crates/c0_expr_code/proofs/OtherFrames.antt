@@ -4,7 +4,7 @@ use Rattle.std.proofs.Common.{◌≡◌, ℕ, zero, suc, ◌+◌, ◌*◌, true,
 use Rattle.c0_meaning.specs.Ty.{Ty, is_scalar}
 use Rattle.c0_meaning.specs.Ty as ty
 use Rattle.c0_meaning.specs.Env.{Shape}
-use Rattle.c0_meaning.specs.Words.{fields_named, words}
+use Rattle.c0_meaning.specs.Words.{shape_fields, words}
 use Rattle.c0_meaning.specs.Sizes.{words_before}
 use Rattle.c0_meaning.specs.Addresses.{words_to, words_to_part}
 use Rattle.c0_meaning.specs.Value.{Region, globals, heap, locals, Value, int, bool, null, at, group, Values, empty, part}
@@ -46,7 +46,7 @@ module _ (sc : Scope) (p : Bases) (other : Scope) (q : Bases) (later : IsLater s
 
   mutual
     held : (a : ℕ) (t : Ty) (v : Value) → Fits sc.env.structs (layout sc p) t v → Held sc p m a t v → Held other q m a t v
-    held a (ty.named x) (group vs) f h = subst (λ s. AllHeld other q m a (types_of (fields_named s x)) vs) (sym later.structs) (all_held a (types_of (fields_named sc.env.structs x)) vs f h)
+    held a (ty.named x) (group vs) f h = subst (λ s. AllHeld other q m a (types_of (shape_fields s x)) vs) (sym later.structs) (all_held a (types_of (shape_fields sc.env.structs x)) vs f h)
     held a (ty.array t n) (group vs) f h = all_held a (replicate n t) vs f h
     held a ty.int v f h = h ∙ sym (word_same ty.int v f refl)
     held a ty.bool v f h = h ∙ sym (word_same ty.bool v f refl)

@@ -13,9 +13,9 @@ use Rattle.c0_expr_code.specs.Scope.{Scope}
 use Rattle.c0_expr_code.specs.Bases.{Bases, types_in, location_word, word_of_scalar, LocalsHeld}
 use Rattle.c0_expr_code.specs.Relation.{layout, StateIsTyped, Ready, Area}
 use Rattle.c0_expr_code.specs.Laws.{RegionsApart, memory_with}
-use Rattle.c0_expr_code.proofs.Offsets.{one_word, room_from, before_scalars}
+use Rattle.c0_expr_code.proofs.PartsAtOffsets.{one_word, room_from, before_scalars}
 use Rattle.c0_expr_code.proofs.SideBySide.{same_reg, other_reg}
-use Rattle.c0_expr_code.proofs.Stores.{region_same, put_word}
+use Rattle.c0_expr_code.proofs.StoredAtPath.{region_same, put_word}
 use Rattle.c0_expr_code.proofs.LiveLocals.{put_same, put_other, locals_same, locals_put}
 use Rattle.c0_expr_code.proofs.FittingParts.{put_parts}
 

@@ -9,7 +9,7 @@ use Rattle.c0_tree.specs.Size.{nodes}
 use Rattle.c0_expr_code.specs.Scope.{Scope}
 use Rattle.c0_expr_code.specs.Code.{is_near, Made, operand_code, operand_register, two_code, made}
 use Rattle.c0_expr_code.specs.Test.{branch_code, compare_code, ImmediateTest, immediate_test, immediate_test_of, Testing, compare_test, both_code, binary_test, plain_test, test_code}
-use Rattle.c0_expr_code.proofs.Lengths.{Short, operand_length, short}
+use Rattle.c0_expr_code.proofs.ShortExpressions.{Short, operand_length, short}
 
 module _ (sc : Scope) where
   -- lengths

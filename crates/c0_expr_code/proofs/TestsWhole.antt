@@ -22,7 +22,7 @@ use Rattle.c0_meaning.specs.Value.{Value, int, bool, at, group}
 use Rattle.c0_meaning.specs.Value as value
 use Rattle.c0_meaning.specs.State.{C0State}
 use Rattle.c0_meaning.specs.Operators.{Failure, faulted, stuck, same, on_unary, on_binary}
-use Rattle.c0_meaning.specs.Evaluation.{Costed, costs, at_no_cost, paying, ◌>>=◌, truth, bool_of, both, value_of}
+use Rattle.c0_meaning.specs.Evaluation.{Costed, costs, at_no_cost, paying, ◌>>=◌, truth, bool_of, both_sides, value_of}
 use Rattle.c0_meaning.specs.TypedState.{Fits}
 use Rattle.masm.specs.Says.{Gives as Becomes}
 use Rattle.cvm_words.specs.Words.{word_of}
@@ -32,16 +32,16 @@ use Rattle.c0_expr_code.specs.Test.{branch_code, negative_branch, positive_branc
 use Rattle.c0_expr_code.specs.Bases.{Bases, word_of_scalar}
 use Rattle.c0_expr_code.specs.Relation.{layout, StateIsTyped, Ready, KeepsRegisters, Area, HoldsValue, OperandRuns, Right, Splits, ends, Aims, TestRuns}
 use Rattle.c0_expr_code.proofs.CodeRuns.{Machine, joined, later, stays, code_front, code_back, said_step}
-use Rattle.c0_expr_code.proofs.Words.{word_less, not_less}
+use Rattle.c0_expr_code.proofs.WordsOfValues.{word_less, not_less}
 use Rattle.c0_expr_code.proofs.SideBySide.{keeps_all, keeps_on, keeps_in, keeps_one, keeps_low, ready_on, source_kept}
-use Rattle.c0_expr_code.proofs.Operators.{same_words}
-use Rattle.c0_expr_code.proofs.Immediates.{near_some, less_near}
+use Rattle.c0_expr_code.proofs.OperatorsOnRegisters.{same_words}
+use Rattle.c0_expr_code.proofs.ConstantOperands.{near_some, less_near}
 use Rattle.c0_expr_code.proofs.NodeTypes.{KnownAs, known_is}
 use Rattle.c0_expr_code.proofs.FramePlaces.{or_left, or_right}
 use Rattle.c0_expr_code.specs.Reads.{reads, Covers}
 use Rattle.c0_expr_code.proofs.EveryExpression.{need_some, right, null_right_is}
 use Rattle.c0_expr_code.proofs.TestLengths.{both_length, test_length}
-use Rattle.c0_expr_code.proofs.Tests.{split_more, split_paid, split_binds, as_split, split_says, split_at, split_arrives, truth_paying, truth_binds, branches, negative_branches, positive_branches}
+use Rattle.c0_expr_code.proofs.TestsGoByAnswers.{split_more, split_paid, split_binds, as_split, split_says, split_at, split_arrives, truth_paying, truth_binds, branches, negative_branches, positive_branches}
 
 -- the place by the answer, where the answer is turned
 turned : (b : Bool) (to end : ℕ) (x : Bool) → ends (not b) to end (not x) ≡ ends b to end x
@@ -476,7 +476,7 @@ module _ (w : World) (sc : Scope) (p : Bases) (live : ℕ → Bool) (s : C0State
 
   equal_tests : (o : BinaryOp) → IsEquality o → (t : Ty) → is_scalar t ≡ true → (m ma mb : Made) (ta tb : Testing) (na nb : ℕ) (x y : Costed Value)
       → 1 ≤ nb → OperandRuns w sc p live s ma na t x → OperandRuns w sc p live s mb nb t y
-      → TestsAs (binary_test o m ma mb ta tb) (binary_need o na nb) (truth (paying 1 (both o x y)))
+      → TestsAs (binary_test o m ma mb ta tb) (binary_need o na nb) (truth (paying 1 (both_sides o x y)))
   equal_tests _ eq t z m ma mb ta tb na nb x y some oa ob = node_test (binary_test Eq m ma mb ta tb) (max na (nb + 1)) _ (λ b far to r n c k idle ready code lo hi aims. compared Eq ma mb na nb t t x y (equal Eq eq t z) oa ob b far to r n c k idle ready code lo (omega arith) (omega arith) some aims)
   equal_tests _ ne t z m ma mb ta tb na nb x y some oa ob = node_test (binary_test Ne m ma mb ta tb) (max na (nb + 1)) _ (λ b far to r n c k idle ready code lo hi aims. compared Ne ma mb na nb t t x y (equal Ne ne t z) oa ob b far to r n c k idle ready code lo (omega arith) (omega arith) some aims)
 
@@ -519,7 +519,7 @@ module _ (w : World) (sc : Scope) (p : Bases) (live : ℕ → Bool) (s : C0State
 
   order_tests : (o : BinaryOp) → IsOrdering o → (m ma mb : Made) (ta tb : Testing) (na nb : ℕ) (x y : Costed Value) → 1 ≤ na → 1 ≤ nb
       → ((k : ℕ) → mb.known ≡ Some k → KnownAs sc p ty.int k y) → OperandRuns w sc p live s ma na ty.int x → OperandRuns w sc p live s mb nb ty.int y
-      → TestsAs (binary_test o m ma mb ta tb) (binary_need o na nb) (truth (paying 1 (both o x y)))
+      → TestsAs (binary_test o m ma mb ta tb) (binary_need o na nb) (truth (paying 1 (both_sides o x y)))
   order_tests _ lt m ma mb ta tb na nb x y more_than some known oa ob = compare_tests (immediate_test_of Lt mb.known) Lt ma mb na nb x y more_than some (ordered Lt lt) (knows_test Lt mb.known y (λ z x. int_lt x z) known (λ x z. refl) by_lt) oa ob
   order_tests _ le m ma mb ta tb na nb x y more_than some known oa ob = compare_tests (immediate_test_of Le mb.known) Le ma mb na nb x y more_than some (ordered Le le) (knows_test Le mb.known y (λ z x. int_le x z) known (λ x z. refl) by_le) oa ob
   order_tests _ gt m ma mb ta tb na nb x y more_than some known oa ob = compare_tests (immediate_test_of Gt mb.known) Gt ma mb na nb x y more_than some (ordered Gt gt) (knows_test Gt mb.known y (λ z x. int_lt z x) known (λ x z. refl) by_gt) oa ob
@@ -528,7 +528,7 @@ module _ (w : World) (sc : Scope) (p : Bases) (live : ℕ → Bool) (s : C0State
   logic_tests : (o : BinaryOp) → IsLogical o → (m ma mb : Made) (ta tb : Testing) (na nb j k : ℕ) (x y : Costed Value) → 1 ≤ na
       → ((b : Bool) (far r : ℕ) → length (ta b far r) ≤ 15 * j) → ((b : Bool) (far r : ℕ) → length (tb b far r) ≤ 15 * k) → j + k + 1 ≤ 2000
       → TestsAs ta na (truth x) → TestsAs tb nb (truth y)
-      → TestsAs (binary_test o m ma mb ta tb) (binary_need o na nb) (truth (paying 1 (both o x y)))
+      → TestsAs (binary_test o m ma mb ta tb) (binary_need o na nb) (truth (paying 1 (both_sides o x y)))
   logic_tests _ and m ma mb ta tb na nb j k x y some la lb few t1 t2 = node_test (binary_test And m ma mb ta tb) (max na nb) _ by_side
     where
       by_side : (b : Bool) (far to r n : ℕ) (c : Contents) (d : Behind) → d.pending ≡ Idle → Ready sc p live s c

@@ -10,7 +10,7 @@ use Rattle.c0_meaning.specs.Ty.{Ty, pointer, named}
 use Rattle.c0_meaning.specs.Env.{Typed, env_of}
 use Rattle.c0_meaning.specs.Expression.{target}
 use Rattle.c0_meaning.specs.Limits.{locals_of}
-use Rattle.c0_meaning.specs.Words.{fields_named}
+use Rattle.c0_meaning.specs.Words.{shape_fields}
 use Rattle.c0_meaning.specs.Numbered.{variable_at, HasNumberedType, a_number, a_true, a_false, a_variable, a_field, a_target_field, an_element, a_target, an_address, a_negative, a_negation, arithmetic, order, logic, equality, null_left, null_right}
 use Rattle.c0_meaning.specs.TypeAt.{env_in, TypesAreAtHand}
 use Rattle.c0_expr_code.specs.Code.{fields_in}
@@ -31,10 +31,10 @@ module _ (law : TypesAreAtHand) (primitives : List CPrimitive) (u : CUnit) (w : 
   variable_there Function n d h = tt
   variable_there Primitive n d h = tt
 
-  field_there : (t : Option Ty) (x : List ℕ) (n : ℕ) (d : Typed) → t ≡ Some (named x) → slice_get (fields_named (env_in u w).structs x) n ≡ Some d → IsFieldThere (env_in u w) t n
+  field_there : (t : Option Ty) (x : List ℕ) (n : ℕ) (d : Typed) → t ≡ Some (named x) → slice_get (shape_fields (env_in u w).structs x) n ≡ Some d → IsFieldThere (env_in u w) t n
   field_there t x n d e h =
       subst (λ (s : Option Ty). n < length (fields_in (env_in u w).structs s)) (sym e)
-      (let c = length-map (fields_named (env_in u w).structs x) (λ (d : Typed). d.ty) in let b = below_length _ n d h in omega arith)
+      (let c = length-map (shape_fields (env_in u w).structs x) (λ (d : Typed). d.ty) in let b = below_length _ n d h in omega arith)
 
   numbers : (e : CExpr) (t : Ty) → HasNumberedType (env_of primitives u (w.params ++ locals_of w.body)) e t → HasNumbers (env_in u w) e
   numbers _ _ (a_number h) = tt

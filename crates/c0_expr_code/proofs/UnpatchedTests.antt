@@ -13,7 +13,7 @@ use Rattle.c0_expr_code.specs.Code.{made}
 use Rattle.c0_expr_code.specs.Test.{immediate_test_of, compare_test, plain_test, test_code}
 use Rattle.c0_expr_code.specs.Jumps.{Unpatched, last_unpatched, joined_unpatched, test_unpatched, patched}
 use Rattle.c0_expr_code.specs.EmitTest.{StandsUnpatched, bool_code, order_code, registers_code, over_unpatched}
-use Rattle.c0_expr_code.proofs.Patches.{assoc, map_append, map_length, shifted, EndsIn, aims, patches, within, plain_ends, IsCompared, lt, le, gt, ge, eq, compared, test_of}
+use Rattle.c0_expr_code.proofs.PatchedIsTestCode.{assoc, map_append, map_length, shifted, EndsIn, aims, patches, within, plain_ends, IsCompared, lt, le, gt, ge, eq, compared, test_of}
 
 on_ok : {A E : Type 0} (r : Result A E) (P Q : Type 0) → (P → Q) → OnOk r P → OnOk r Q
 on_ok (Ok a) P Q f h = f h

@@ -10,7 +10,7 @@ use Rattle.c0_expr_code.specs.Code.{AddressingMode, is_near, low, high, store_co
 use Rattle.c0_expr_code.specs.Relation.{KeepsRegisters, Source}
 use Rattle.c0_expr_code.specs.Laws.{memory_with}
 use Rattle.c0_expr_code.proofs.CodeRuns.{Machine, joined, later, code_back, said_step}
-use Rattle.c0_expr_code.proofs.Words.{near_is, far_is}
+use Rattle.c0_expr_code.proofs.WordsOfValues.{near_is, far_is}
 use Rattle.c0_expr_code.proofs.SideBySide.{same_read, other_read, other_reg, keeps_all, source_other}
 
 module _ (w : World) (f : Machine w) where

@@ -5,7 +5,7 @@ use Rattle.cvm_words.specs.Words.{word_of}
 use Rattle.c0_meaning.specs.Ty.{Ty}
 use Rattle.c0_meaning.specs.Ty as ty
 use Rattle.c0_meaning.specs.Env.{Shape}
-use Rattle.c0_meaning.specs.Words.{fields_named, words}
+use Rattle.c0_meaning.specs.Words.{shape_fields, words}
 use Rattle.c0_meaning.specs.Sizes.{words_before}
 use Rattle.c0_meaning.specs.Addresses.{words_to_part}
 use Rattle.c0_meaning.specs.Value.{Region, globals, heap, locals, Location, Value, int, bool, null, at, group, Values, empty, part}
@@ -55,7 +55,7 @@ word_of_scalar sc p (group vs) = 0
 -- a value of a type stands in these words from a on, and so do values one after another
 abbrev mutual
   pub Held : Scope → Bases → (ℕ → ℕ) → ℕ → Ty → Value → Type 0
-  Held sc p m a (ty.named x) (group vs) = AllHeld sc p m a (types_of (fields_named sc.env.structs x)) vs
+  Held sc p m a (ty.named x) (group vs) = AllHeld sc p m a (types_of (shape_fields sc.env.structs x)) vs
   Held sc p m a (ty.array t n) (group vs) = AllHeld sc p m a (replicate n t) vs
   Held sc p m a (ty.named x) _ = ⊥
   Held sc p m a (ty.array t n) _ = ⊥

@@ -16,7 +16,7 @@ use Rattle.c0_meaning.specs.Ty.{Ty}
 use Rattle.c0_meaning.specs.Ty as ty
 use Rattle.c0_meaning.specs.Env.{Shape}
 use Rattle.c0_meaning.specs.Expression.{target}
-use Rattle.c0_meaning.specs.Words.{fields_named, words}
+use Rattle.c0_meaning.specs.Words.{shape_fields, words}
 use Rattle.c0_meaning.specs.Sizes.{words_before}
 use Rattle.c0_meaning.specs.Operators.{NullUse, Bounds, DivZero}
 use Rattle.c0_meaning.specs.TypeAt.{type_at}
@@ -25,7 +25,7 @@ use Rattle.c0_expr_code.specs.Scope.{Scope}
 
 -- the types of the fields, where a type is a struct
 abbrev pub fields_in : List Shape → Option Ty → List Ty
-fields_in structs (Some (ty.named x)) = types_of (fields_named structs x)
+fields_in structs (Some (ty.named x)) = types_of (shape_fields structs x)
 fields_in structs _ = []
 
 -- the words of an element, where a type is an array

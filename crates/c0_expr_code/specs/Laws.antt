@@ -11,7 +11,7 @@ use Rattle.c0_tree.specs.Size.{need, nodes}
 use Rattle.c0_meaning.specs.Operators.{KernelFault}
 use Rattle.c0_meaning.specs.Ty.{Ty, bool, named, is_scalar}
 use Rattle.c0_meaning.specs.Env.{Env, Shape}
-use Rattle.c0_meaning.specs.Words.{fields_named, words}
+use Rattle.c0_meaning.specs.Words.{shape_fields, words}
 use Rattle.c0_meaning.specs.Addresses.{words_to_part}
 use Rattle.c0_meaning.specs.Value.{locals, Location, Value, value_with as put_value}
 use Rattle.c0_meaning.specs.TypedState.{StoreTyping, types_of, LeadsFrom, Fits, AreParts, AreDeclared}
@@ -104,7 +104,7 @@ pub record StoresHold : Type 0 where
 
 -- a struct's words are those of its fields
 abbrev pub IsOpened : List Shape → Type 0
-IsOpened structs = (x : List ℕ) → words structs (named x) ≡ words_of_all structs (types_of (fields_named structs x))
+IsOpened structs = (x : List ℕ) → words structs (named x) ≡ words_of_all structs (types_of (shape_fields structs x))
 
 -- What code keeps by registers and words it keeps of the state; a region stands where its words are the same; and where one word of a region
 -- alone changes, the region with the scalar there. So do variables as far as they are live; one that gets a scalar as a whole is live from then on.

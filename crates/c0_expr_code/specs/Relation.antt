@@ -6,7 +6,7 @@ use Rattle.c0_tree.specs.Size.{need}
 use Rattle.c0_tree.specs.Tree.{CExpr}
 use Rattle.c0_meaning.specs.Ty.{Ty, named, is_scalar}
 use Rattle.c0_meaning.specs.Expression.{is_lvalue}
-use Rattle.c0_meaning.specs.Words.{fields_named, words}
+use Rattle.c0_meaning.specs.Words.{shape_fields, words}
 use Rattle.c0_meaning.specs.Numbered.{is_frame_place}
 use Rattle.c0_meaning.specs.Value.{Region, locals, Location, Value}
 use Rattle.c0_meaning.specs.State.{C0State, variables_of}
@@ -47,7 +47,7 @@ pub record KeepsRegisters (r d : ℕ) (c c' : Contents) : Type 0 where
 -- What is fixed: a struct's words are those of its fields; the regions lie in memory, and behind word 0; a frame begins with three words;
 -- registers hold few variables and scalars alone; what stands somewhere has a word; and no two locations of one type have one address.
 pub record Area (w : World) (sc : Scope) (p : Bases) : Type 0 where
-  pub opened : (x : List ℕ) → words sc.env.structs (named x) ≡ words_of_all sc.env.structs (types_of (fields_named sc.env.structs x))
+  pub opened : (x : List ℕ) → words sc.env.structs (named x) ≡ words_of_all sc.env.structs (types_of (shape_fields sc.env.structs x))
   pub globals_room : p.globals + words_of_all sc.env.structs (types_of sc.env.globals) ≤ w.words
   pub heap_room : p.heap + words_of_all sc.env.structs p.objects ≤ w.words
   pub globals_from : 0 < p.globals

@@ -9,7 +9,7 @@ use Rattle.c0_tree.specs.Tree.{CName, CExpr, num, null, var, arrow, index, addre
 use Rattle.c0_meaning.specs.Ty.{Ty}
 use Rattle.c0_meaning.specs.Ty as ty
 use Rattle.c0_meaning.specs.Env.{Typed}
-pub use Rattle.c0_meaning.specs.Bare.{z}
+pub use Rattle.c0_meaning.specs.Bare.{z, number}
 use Rattle.c0_meaning.specs.Operators.{KernelFault, NullUse, Bounds, DivZero, StackOut}
 use Rattle.c0_expr_code.specs.Scope.{Scope}
 use Rattle.c0_expr_code.specs.Code.{constant_code, scale_code, store_code, value_code, place_address}
@@ -62,10 +62,7 @@ i = var (numbered_name Local 0)
 abbrev pub n : CExpr
 n = var (numbered_name Local 1)
 
--- a number, and one below 0
-abbrev pub number : ℕ → CExpr
-number k = num z k
-
+-- a number below 0
 abbrev pub negative_number : ℕ → CExpr
 negative_number k = unary z Negate (num z k)
 

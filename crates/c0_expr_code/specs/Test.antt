@@ -51,18 +51,18 @@ ImmediateTest = Option (Bool → (far q : ℕ) → List Inst)
 abbrev pub below_code : ℕ → Bool → (far q : ℕ) → List Inst
 below_code k s far q = Slti SCRATCH q (low k) ∷ branch_code (not s) SCRATCH 0 far ∷ []
 
-abbrev pub when_near : ℕ → (Bool → (far q : ℕ) → List Inst) → ImmediateTest
-when_near k code = if is_near k then Some code else None
+abbrev pub test_when_near : ℕ → (Bool → (far q : ℕ) → List Inst) → ImmediateTest
+test_when_near k code = if is_near k then Some code else None
 
 abbrev pub immediate_test : BinaryOp → ℕ → ImmediateTest
-immediate_test Lt k = if k == 0 then Some (λ s far q. negative_branch s q far ∷ []) else when_near k (λ s far q. below_code k s far q)
-immediate_test Ge k = if k == 0 then Some (λ s far q. negative_branch (not s) q far ∷ []) else when_near k (λ s far q. below_code k (not s) far q)
+immediate_test Lt k = if k == 0 then Some (λ s far q. negative_branch s q far ∷ []) else test_when_near k (λ s far q. below_code k s far q)
+immediate_test Ge k = if k == 0 then Some (λ s far q. negative_branch (not s) q far ∷ []) else test_when_near k (λ s far q. below_code k (not s) far q)
 immediate_test Gt k =
     if k == 0 then Some (λ s far q. positive_branch s q far ∷ [])
-    else when_near ((k + 1) % 2 ^ 32) (λ s far q. below_code ((k + 1) % 2 ^ 32) (not s) far q)
+    else test_when_near ((k + 1) % 2 ^ 32) (λ s far q. below_code ((k + 1) % 2 ^ 32) (not s) far q)
 immediate_test Le k =
     if k == 0 then Some (λ s far q. positive_branch (not s) q far ∷ [])
-    else when_near ((k + 1) % 2 ^ 32) (λ s far q. below_code ((k + 1) % 2 ^ 32) s far q)
+    else test_when_near ((k + 1) % 2 ^ 32) (λ s far q. below_code ((k + 1) % 2 ^ 32) s far q)
 immediate_test Eq k = None
 immediate_test Ne k = None
 immediate_test Add k = None

@@ -9,7 +9,7 @@ ghost use Rattle.c0_meaning.specs.Sound.{shapes};
 ghost use Rattle.c0_meaning.specs.Ty as ty;
 ghost use Rattle.c0_meaning.specs.Ty.{ty_of};
 ghost use Rattle.c0_meaning.specs.TypedState.{types_of};
-ghost use Rattle.c0_meaning.specs.Words.{fields_named, words};
+ghost use Rattle.c0_meaning.specs.Words.{shape_fields, words};
 ghost use Rattle.c0_expr_code.specs.Layout.{unit_of};
 
 use crate::layout::Layout;
@@ -50,8 +50,8 @@ fn words_at(offsets: &[u64], number: u32) -> u64
 /// The words before the field of a number in the struct of a name.
 pub fn words_to_field(layout: &Layout<'_>, owner: &Name, number: u32) -> u64
     requires resolved { IsResolved (shapes (unit_view layout.now.unit.now)) (named (name_view owner.now)) }
-    requires there { number < length (fields_named (shapes (unit_view layout.now.unit.now)) owner.now.bytes.items) }
-    ensures { result ≡ words_before (shapes (unit_of layout.now)) (types_of (fields_named (shapes (unit_of layout.now)) owner.now.bytes.items)) number }
+    requires there { number < length (shape_fields (shapes (unit_view layout.now.unit.now)) owner.now.bytes.items) }
+    ensures { result ≡ words_before (shapes (unit_of layout.now)) (types_of (shape_fields (shapes (unit_of layout.now)) owner.now.bytes.items)) number }
 {
     offsets_are_those();
     well_formed_units_are_sized();

@@ -8,14 +8,14 @@ use Rattle.c0_tree.specs.Size.{need}
 use Rattle.c0_meaning.specs.Ty.{Ty, pointer, same_ty, is_scalar}
 use Rattle.c0_meaning.specs.Env.{Env}
 use Rattle.c0_meaning.specs.Fault.{fault, WRONG_TYPE, WRONG_COUNT, NOT_A_PLACE, TOO_DEEP}
-use Rattle.c0_meaning.specs.Expression.{has, wrong, type_given, own, one, both, span_of, is_lvalue, is_null, is_pointer, is_null_for, type_of, faults}
+use Rattle.c0_meaning.specs.Expression.{has, wrong, type_given, own, rule_on_one, rule_on_both, span_of, is_lvalue, is_null, is_pointer, is_null_for, type_of, faults}
 use Rattle.c0_meaning.specs.Judgement.{HasType, IsGiven, a_value, a_null}
 use Rattle.c0_meaning.specs.Statement.{MAX_NEED, deep_faults, same_rule, given_faults, tested_faults, left_rule, left_verdict, left_type, left_faults, result_faults, args_faults}
 use Rattle.c0_meaning.specs.Rules.{IsLvalue, AreGiven, none, more, IsTested, TestedIsFaultless}
 use Rattle.c0_meaning.proofs.TypeEquality.{same_ty-itself, equal-same_ty}
-use Rattle.c0_meaning.proofs.Operands.{unfilled}
+use Rattle.c0_meaning.proofs.ComparedOperands.{unfilled}
 use Rattle.c0_meaning.proofs.TypedIsFaultless.{typed_is_faultless, typed_no_null, no_faults}
-use Rattle.c0_meaning.proofs.Faultless.{nonempty, left_nil, right_nil, type_is, null_of, pointer_of, faultless_is_typed}
+use Rattle.c0_meaning.proofs.FaultlessIsTyped.{nonempty, left_nil, right_nil, type_is, null_of, pointer_of, faultless_is_typed}
 
 -- a limit is kept exactly where no fault of it stands
 pub shallow_clean : (s : Span) (n : ℕ) → n ≤ MAX_NEED → deep_faults s n ≡ []
@@ -48,14 +48,14 @@ clean_same s t u h = by_test (same_ty t u) refl h
 -- by whether it is a null that takes the type
 abbrev Clean : Env → Ty → CExpr → Bool → Type 0
 Clean env t e fills =
-    (if fills then [] else faults env e) ++ own (both (Some t) (if fills then Some t else type_of env e) (same_rule (span_of e))) ≡ []
+    (if fills then [] else faults env e) ++ own (rule_on_both (Some t) (if fills then Some t else type_of env e) (same_rule (span_of e))) ≡ []
 
 pub given_clean : (env : Env) (e : CExpr) (t : Ty) → IsGiven env e t → given_faults env (Some t) e ≡ []
 given_clean env e t (a_value h) = subst (Clean env t e) (sym (unfilled (Some t) e (typed_no_null env e t h))) here
   where
     here : Clean env t e false
     here = no_faults _ _ (typed_is_faultless env e t h).0
-        (ap (λ o. own (both (Some t) o (same_rule (span_of e)))) (type_is env e t h) ∙ same_clean (span_of e) t)
+        (ap (λ o. own (rule_on_both (Some t) o (same_rule (span_of e)))) (type_is env e t h) ∙ same_clean (span_of e) t)
 given_clean env _ _ (a_null {s = s} {t = t}) = same_clean s (pointer t)
 
 pub clean_given : (env : Env) (e : CExpr) (t : Ty) → given_faults env (Some t) e ≡ [] → IsGiven env e t
@@ -74,7 +74,7 @@ clean_given env e t h = by_test (is_null_for (Some t) e) refl h
     by_test false f h =
         let v = faultless_is_typed env e (left_nil (faults env e) _ h) in
         let same = clean_same (span_of e) t v.0
-        (ap (λ o. own (both (Some t) o (same_rule (span_of e)))) (sym (type_is env e v.0 v.1)) ∙ right_nil (faults env e) _ h) in
+        (ap (λ o. own (rule_on_both (Some t) o (same_rule (span_of e)))) (sym (type_is env e v.0 v.1)) ∙ right_nil (faults env e) _ h) in
         a_value (subst (HasType env e) (sym same) v.1)
 
 tested_clean : (env : Env) (t : Ty) (e : CExpr) → IsTested env e t → tested_faults env t e ≡ []
@@ -97,7 +97,7 @@ pub record Left (env : Env) (p : CExpr) (t : Ty) : Type 0 where
 pub left_clean : (env : Env) (p : CExpr) (t : Ty) → IsLvalue env p t → Left env p t
 left_clean env p t h =
     let v : left_verdict env p ≡ has t =
-    ap (λ o. one o (left_rule (is_lvalue p) (span_of p))) (type_is env p t h.typed)
+    ap (λ o. rule_on_one o (left_rule (is_lvalue p) (span_of p))) (type_is env p t h.typed)
     ∙ (ap (λ b. left_rule b (span_of p) t) h.place ∙ ap (λ (b : Bool). if b then has t else wrong (fault WRONG_TYPE (span_of p))) h.scalar) in
     record { clean = no_faults _ _ (typed_is_faultless env p t h.typed).0 (ap own v); asks = ap type_given v }
 
@@ -105,7 +105,7 @@ pub clean_left : (env : Env) (p : CExpr) → left_faults env p ≡ [] → (t : T
 clean_left env p h =
     let v = faultless_is_typed env p (left_nil (faults env p) _ h) in
     let r : own (left_rule (is_lvalue p) (span_of p) v.0) ≡ [] =
-    ap (λ o. own (one o (left_rule (is_lvalue p) (span_of p)))) (sym (type_is env p v.0 v.1)) ∙ right_nil (faults env p) _ h in
+    ap (λ o. own (rule_on_one o (left_rule (is_lvalue p) (span_of p)))) (sym (type_is env p v.0 v.1)) ∙ right_nil (faults env p) _ h in
     let q = tests (span_of p) v.0 (is_lvalue p) (is_scalar v.0) r in
     (v.0, record { place = q.0; scalar = q.1; typed = v.1 })
   where

@@ -9,7 +9,7 @@ use Rattle.c0_meaning.specs.DeclaredTypes.{fault_if}
 use Rattle.c0_meaning.specs.Limits.{first_faults, is_first, none_first, whole_span}
 use Rattle.c0_meaning.specs.RunLaws.{HasFirst}
 use Rattle.c0_meaning.specs.Unit.{IsCheckedAs}
-use Rattle.c0_meaning.proofs.Registers.{is_not}
+use Rattle.c0_meaning.proofs.OwnRegistersOnly.{is_not}
 
 -- the first of functions that passes a test
 pub record Found (is : CFunction → Bool) (fs : List CFunction) : Type 0 where

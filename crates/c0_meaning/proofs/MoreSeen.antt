@@ -14,7 +14,7 @@ use Rattle.c0_meaning.specs.UserProgram.{trap, outcome_seen, prog}
 use Rattle.c0_meaning.specs.RunLaws.{HasEnded, stands_at}
 use Rattle.c0_meaning.specs.ProgramLaws.{ArgumentsStay}
 use Rattle.c0_meaning.proofs.LaterAnswers.{entries_join, seen_there, cut}
-use Rattle.c0_meaning.proofs.Programs.{programs_end}
+use Rattle.c0_meaning.proofs.EndedStaysSo.{programs_end}
 use Rattle.c0_meaning.proofs.StepsTakeUnits.{calls_extend}
 
 take_front : (k : ℕ) (xs ys : List ℤ) → (more : List ℤ) × (take k (xs ++ ys) ≡ take k xs ++ more)

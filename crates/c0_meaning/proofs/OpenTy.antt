@@ -7,7 +7,7 @@ use Rattle.c0_tree.specs.Primitives.{CPrimitive}
 use Rattle.std.proofs.lemmas.Bool.{cond-false, false_from_ne_true}
 use Rattle.c0_meaning.specs.Ty.{Ty, int, bool, pointer, named, array}
 use Rattle.c0_meaning.specs.Env.{Typed, Shape, shape_of}
-use Rattle.c0_meaning.specs.Words.{StructHolds, fields_named, holds, words_with, all_words_with, words_within, struct_words, words}
+use Rattle.c0_meaning.specs.Words.{StructHolds, shape_fields, holds, words_with, all_words_with, words_within, struct_words, words}
 use Rattle.c0_meaning.specs.OpenTy.{OpenTy, opened_with, all_opened_with, opened_within, opened, size, all_sizes, SizeIsWords}
 use Rattle.c0_meaning.specs.Sound.{shapes}
 use Rattle.c0_meaning.specs.Typed.{IsTypedStruct}
@@ -31,8 +31,8 @@ module _ (structs : List Shape) (loose : (x : List ℕ) → StructHolds structs 
   size_within : (depth : ℕ) (x : List ℕ) → size (opened_within depth structs x) ≡ words_within depth structs x
   size_within zero x = refl
   size_within (suc depth) x =
-      sizes_with (opened_within depth structs) (words_within depth structs) (size_within depth) (fields_named structs x)
-      ∙ sym (cond-false (holds structs x x) 0 (all_words_with (words_within depth structs) (fields_named structs x)) (false_from_ne_true (holds structs x x) (λ h. loose x ((holds_as_tested structs x x).0 h))))
+      sizes_with (opened_within depth structs) (words_within depth structs) (size_within depth) (shape_fields structs x)
+      ∙ sym (cond-false (holds structs x x) 0 (all_words_with (words_within depth structs) (shape_fields structs x)) (false_from_ne_true (holds structs x x) (λ h. loose x ((holds_as_tested structs x x).0 h))))
 
 -- a struct of a typed unit doesn't hold itself
 loose_among : (structs : List Shape) (x : List ℕ) (all : List CStruct) → All (IsTypedStruct structs) all → Among (map (λ s. s.text) (map shape_of all)) x → StructHolds structs x x → ⊥

@@ -6,11 +6,11 @@ use Rattle.std.proofs.lemmas.Bool.{or_left, or_right, ltb-true, ltb-false, false
 use Rattle.std.proofs.lemmas.Slice.Eq.{bytes_eq-Decides}
 use Rattle.c0_meaning.specs.Ty.{Ty, int, bool, pointer, named, array}
 use Rattle.c0_meaning.specs.Env.{Typed, Shape}
-use Rattle.c0_meaning.specs.Words.{is_made_of, have_field, fields_named, StructHolds, by_field, by_part, holds, words, all_words}
+use Rattle.c0_meaning.specs.Words.{is_made_of, have_field, shape_fields, StructHolds, by_field, by_part, holds, words, all_words}
 use Rattle.c0_meaning.specs.Sound.{shapes}
 use Rattle.c0_meaning.specs.Sizes.{words_before}
 use Rattle.c0_meaning.specs.TypedState.{types_of, PathLeads, LeadsFrom}
-use Rattle.c0_meaning.specs.Addresses.{type_at, words_to, words_to_part, PartsAreApart}
+use Rattle.c0_meaning.specs.Addresses.{nth_type, words_to, words_to_part, PartsAreApart}
 use Rattle.c0_meaning.proofs.StructHolding.{holds_as_tested}
 use Rattle.c0_meaning.proofs.StructWords.{fields_words}
 use Rattle.c0_meaning.proofs.OpenTy.{well_formed_loose}
@@ -27,7 +27,7 @@ not_empty [] i e = cc
 not_empty (x ∷ p) i e = cc
 
 -- the type that is found is that of its number
-type_found : (types : List Ty) (i : ℕ) (t : Ty) → slice_get types i ≡ Some t → type_at types i ≡ t
+type_found : (types : List Ty) (i : ℕ) (t : Ty) → slice_get types i ≡ Some t → nth_type types i ≡ t
 type_found types i t e = ap (λ o. unwrap_or o int) e
 
 -- a field that is made of a struct
@@ -56,8 +56,8 @@ module _ (structs : List Shape) where
   made (named z) (i ∷ p) y h =
       let itself = (bytes_eq-Decides z z).1 refl in
       elim (made h.0 p y h.2) [
-        | inl m ↦ inr (z, itself, by_field (field_made (fields_named structs z) i h.0 y h.1 m))
-        | inr k ↦ inr (z, itself, by_part (field_made (fields_named structs z) i h.0 k.0 h.1 k.1) k.2)
+        | inl m ↦ inr (z, itself, by_field (field_made (shape_fields structs z) i h.0 y h.1 m))
+        | inr k ↦ inr (z, itself, by_part (field_made (shape_fields structs z) i h.0 k.0 h.1 k.1) k.2)
       ]
   made (array t n) (i ∷ p) y h = made t p y h.1
   made int (i ∷ p) y h = absurd h
@@ -70,8 +70,8 @@ module _ (structs : List Shape) where
     no_self t [] h = refl
     no_self (named x) (i ∷ p) h =
         absurd (loose x (elim (made h.0 p x h.2) [
-          | inl m ↦ by_field (field_made (fields_named structs x) i h.0 x h.1 m)
-          | inr k ↦ by_part (field_made (fields_named structs x) i h.0 k.0 h.1 k.1) k.2
+          | inl m ↦ by_field (field_made (shape_fields structs x) i h.0 x h.1 m)
+          | inr k ↦ by_part (field_made (shape_fields structs x) i h.0 k.0 h.1 k.1) k.2
         ]))
     no_self (array t n) (i ∷ p) h = absurd (not_empty p i (no_self t (p ++ i ∷ []) (leads_on structs t p (array t n) i t h.1 (h.0, refl))))
     no_self int (i ∷ p) h = absurd h
@@ -82,7 +82,7 @@ module _ (structs : List Shape) where
     inside : (t : Ty) (p : List ℕ) (u : Ty) → PathLeads structs t p u → words_to structs t p + words structs u ≤ words structs t
     inside t [] u h = subst (λ v. 0 + words structs v ≤ words structs t) h (omega arith)
     inside (named x) (i ∷ p) u h =
-        let fs = fields_named structs x in
+        let fs = shape_fields structs x in
         let k = inside h.0 p u h.2 in
         let w = part_within fs i h.0 h.1 in
         let all = fields_words structs x (false_from_ne_true (holds structs x x) (λ held. loose x ((holds_as_tested structs x x).0 held))) in
@@ -95,19 +95,19 @@ module _ (structs : List Shape) where
     -- parts of values one after another: of the same value they are apart where that value's are, and parts of two values don't overlap
     apart_among : (types : List Ty) (i j : ℕ) (v w : Ty) (p q : List ℕ) (t : Ty) → slice_get types i ≡ Some v → slice_get types j ≡ Some w → PathLeads structs v p t → PathLeads structs w q t → 1 ≤ words structs t
         → (PathLeads structs v q t → words_to structs v p ≡ words_to structs v q → p ≡ q)
-        → words_before structs types i + words_to structs (type_at types i) p ≡ words_before structs types j + words_to structs (type_at types j) q → i ∷ p ≡ j ∷ q
+        → words_before structs types i + words_to structs (nth_type types i) p ≡ words_before structs types j + words_to structs (nth_type types j) q → i ∷ p ≡ j ∷ q
     apart_among types i j v w p q t found other a b h below e = by_order (nat_lt i j) (nat_lt j i) refl refl
       where
         here : words_before structs types i + words_to structs v p ≡ words_before structs types j + words_to structs w q
         here = subst (λ x. words_before structs types i + words_to structs x p ≡ words_before structs types j + words_to structs w q) (type_found types i v found)
-            (subst (λ x. words_before structs types i + words_to structs (type_at types i) p ≡ words_before structs types j + words_to structs x q) (type_found types j w other) e)
+            (subst (λ x. words_before structs types i + words_to structs (nth_type types i) p ≡ words_before structs types j + words_to structs x q) (type_found types j w other) e)
 
         by_order : (x y : Bool) → nat_lt i j ≡ x → nat_lt j i ≡ y → i ∷ p ≡ j ∷ q
         by_order true y f g = absurd (omega (arith, part_before types i j v found (ltb-true i j f), inside v p t a, here, h))
         by_order false true f g = absurd (omega (arith, part_before types j i w other (ltb-true j i g), inside w q t b, here, h))
         by_order false false f g =
             let same : i ≡ j = omega (arith, ltb-false i j f, ltb-false j i g) in
-            let type_too : w ≡ v = sym (type_found types j w other) ∙ (ap (type_at types) (sym same) ∙ type_found types i v found) in
+            let type_too : w ≡ v = sym (type_found types j w other) ∙ (ap (nth_type types) (sym same) ∙ type_found types i v found) in
             let words_too : words_to structs v p ≡ words_to structs w q = omega (arith, here, ap (words_before structs types) same) in
             let path = below (subst (λ x. PathLeads structs x q t) type_too b) (words_too ∙ ap (λ x. words_to structs x q) type_too) in
             cc
@@ -117,7 +117,7 @@ module _ (structs : List Shape) where
     apart s [] (j ∷ q) t a b h e = sym (no_self s (j ∷ q) (subst (λ u. PathLeads structs s (j ∷ q) u) (sym a) b))
     apart s (i ∷ p) [] t a b h e = no_self s (i ∷ p) (subst (λ u. PathLeads structs s (i ∷ p) u) (sym b) a)
     apart (named x) (i ∷ p) (j ∷ q) t a b h e =
-        apart_among (types_of (fields_named structs x)) i j a.0 b.0 p q t a.1 b.1 a.2 b.2 h (λ c d. apart a.0 p q t a.2 c h d) e
+        apart_among (types_of (shape_fields structs x)) i j a.0 b.0 p q t a.1 b.1 a.2 b.2 h (λ c d. apart a.0 p q t a.2 c h d) e
     apart (array u n) (i ∷ p) (j ∷ q) t a b h e = by_order (λ words_too. apart u p q t a.1 b.1 h words_too) (nat_lt i j) (nat_lt j i) refl refl
       where
         by_order : (words_to structs u p ≡ words_to structs u q → p ≡ q) → (x y : Bool) → nat_lt i j ≡ x → nat_lt j i ≡ y → i ∷ p ≡ j ∷ q

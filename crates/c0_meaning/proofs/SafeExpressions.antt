@@ -19,7 +19,7 @@ use Rattle.c0_meaning.proofs.SearchByName.{found_there, got_mapped}
 use Rattle.c0_meaning.specs.Ty.{Ty}
 use Rattle.c0_meaning.specs.Ty as ty
 use Rattle.c0_meaning.specs.Env.{Env, Typed, Variable, variable_of, variable_named, field_named, first_named}
-use Rattle.c0_meaning.specs.Words.{fields_named}
+use Rattle.c0_meaning.specs.Words.{shape_fields}
 use Rattle.c0_meaning.specs.Expression.{is_lvalue, is_local, is_local_kind, type_of, member, target, resolved, numbered_variable, numbered_field}
 use Rattle.c0_meaning.specs.Judgement.{IsArithmetic, add, sub, mul, div, rem, IsOrdering, lt, le, gt, ge, IsEquality, eq, ne, IsLogical, and, or, HasType, a_number, a_true, a_false, a_variable, a_field, a_target_field, an_element, a_target, an_address, a_negative, a_negation, arithmetic, order, logic, equality, null_left, null_right, IsGiven, a_value, a_null}
 use Rattle.c0_meaning.specs.Rules.{AreGiven, none, more}
@@ -28,7 +28,7 @@ use Rattle.cvm_words.specs.Words.{quotient, remainder, word_of}
 use Rattle.c0_meaning.specs.Value.{Region, globals, heap, locals, Location, Value, int, bool, null, at, group, Values, count, below}
 use Rattle.c0_meaning.specs.State.{C0State, variables_of, read}
 use Rattle.c0_meaning.specs.Operators.{Failure, Bounds, faulted, stuck, on_unary, on_binary, divided}
-use Rattle.c0_meaning.specs.Evaluation.{Costed, costs, at_no_cost, paying, ◌>>=◌, bool_of, variable_location, pointed_to, element_of, truth, both, load_from, indexed, field_of, pointed, value_of, place_of, values_of}
+use Rattle.c0_meaning.specs.Evaluation.{Costed, costs, at_no_cost, paying, ◌>>=◌, bool_of, variable_location, pointed_to, element_of, truth, both_sides, load_from, indexed, field_of, pointed, value_of, place_of, values_of}
 use Rattle.c0_meaning.specs.TypedState.{StoreTyping, types_of, PathLeads, LeadsFrom, PointsTo, Fits, AllFit, AreParts}
 use Rattle.c0_meaning.proofs.ValueParts.{Has, get_parts, leads_from_on, points_on, length_fits}
 use Rattle.c0_meaning.proofs.OperatorsInRange.{small, int_of_fits, remainder_fits}
@@ -146,9 +146,9 @@ module _ (env : Env) (layout : StoreTyping) (s : C0State) (scene : SafeState env
   field_good : (local : Bool) (x : List ℕ) (f : CName) (found : ℕ × Typed) (o : Option (ℕ × Typed)) (e : Costed Location) → Good (IsAt env layout local (ty.named x)) e → field_named env x f.text ≡ Some found → o ≡ field_named env x f.text → numbered_field f o ≡ f → Good (IsAt env layout local found.1.ty) (field_of f e)
   field_good local x f found o e h q r n =
       let number = field_is f o found (r ∙ q) n in
-      let there = got_mapped (λ d. d.ty) (fields_named env.structs x) found.0 found.1 (found_there (λ d. d.text) (fields_named env.structs x) f.text found.0 found.1 q) in
+      let there = got_mapped (λ d. d.ty) (shape_fields env.structs x) found.0 found.1 (found_there (λ d. d.text) (shape_fields env.structs x) f.text found.0 found.1 q) in
       binds (IsAt env layout local (ty.named x)) (IsAt env layout local found.1.ty) e _ h
-      (λ l g. below_is env layout local (ty.named x) l f.number found.1.ty g (found.1.ty, subst (λ i. slice_get (types_of (fields_named env.structs x)) i ≡ Some found.1.ty) (sym number) there, refl))
+      (λ l g. below_is env layout local (ty.named x) l f.number found.1.ty g (found.1.ty, subst (λ i. slice_get (types_of (shape_fields env.structs x)) i ≡ Some found.1.ty) (sym number) there, refl))
 
   pointed_good : (t : Ty) (e : Costed Value) → Good (ValueOf (ty.pointer t)) e → Good (IsAt env layout false t) (pointed e)
   pointed_good t e h = binds (ValueOf (ty.pointer t)) (IsAt env layout false t) e _ h by_value
@@ -221,24 +221,24 @@ module _ (env : Env) (layout : StoreTyping) (s : C0State) (scene : SafeState env
   either_good true x y h g = h
   either_good false x y h g = g
 
-  arithmetic_good : (o : BinaryOp) → IsArithmetic o → (l r : Costed Value) → Good (ValueOf ty.int) l → Good (ValueOf ty.int) r → Good (ValueOf ty.int) (both o l r)
+  arithmetic_good : (o : BinaryOp) → IsArithmetic o → (l r : Costed Value) → Good (ValueOf ty.int) l → Good (ValueOf ty.int) r → Good (ValueOf ty.int) (both_sides o l r)
   arithmetic_good _ add l r h g = two_good ty.int ty.int ty.int (on_binary Add) l r h g (ints_good ty.int (on_binary Add) (λ a b p q. SFits-int_wrap w32 _))
   arithmetic_good _ sub l r h g = two_good ty.int ty.int ty.int (on_binary Sub) l r h g (ints_good ty.int (on_binary Sub) (λ a b p q. SFits-int_wrap w32 _))
   arithmetic_good _ mul l r h g = two_good ty.int ty.int ty.int (on_binary Mul) l r h g (ints_good ty.int (on_binary Mul) (λ a b p q. SFits-int_wrap w32 _))
   arithmetic_good _ div l r h g = two_good ty.int ty.int ty.int (on_binary Div) l r h g (ints_good ty.int (on_binary Div) (λ a b p q. divided_good quotient (λ a b f k. int_of_fits (word_of (int_div a b))) a b q))
   arithmetic_good _ rem l r h g = two_good ty.int ty.int ty.int (on_binary Rem) l r h g (ints_good ty.int (on_binary Rem) (λ a b p q. divided_good remainder (λ a b f k. remainder_fits a b f k) a b q))
 
-  order_good : (o : BinaryOp) → IsOrdering o → (l r : Costed Value) → Good (ValueOf ty.int) l → Good (ValueOf ty.int) r → Good (ValueOf ty.bool) (both o l r)
+  order_good : (o : BinaryOp) → IsOrdering o → (l r : Costed Value) → Good (ValueOf ty.int) l → Good (ValueOf ty.int) r → Good (ValueOf ty.bool) (both_sides o l r)
   order_good _ lt l r h g = two_good ty.int ty.int ty.bool (on_binary Lt) l r h g (ints_good ty.bool (on_binary Lt) (λ a b p q. tt))
   order_good _ le l r h g = two_good ty.int ty.int ty.bool (on_binary Le) l r h g (ints_good ty.bool (on_binary Le) (λ a b p q. tt))
   order_good _ gt l r h g = two_good ty.int ty.int ty.bool (on_binary Gt) l r h g (ints_good ty.bool (on_binary Gt) (λ a b p q. tt))
   order_good _ ge l r h g = two_good ty.int ty.int ty.bool (on_binary Ge) l r h g (ints_good ty.bool (on_binary Ge) (λ a b p q. tt))
 
-  equality_good : (o : BinaryOp) → IsEquality o → (t u : Ty) (l r : Costed Value) → Good (ValueOf t) l → Good (ValueOf u) r → Good (ValueOf ty.bool) (both o l r)
+  equality_good : (o : BinaryOp) → IsEquality o → (t u : Ty) (l r : Costed Value) → Good (ValueOf t) l → Good (ValueOf u) r → Good (ValueOf ty.bool) (both_sides o l r)
   equality_good _ eq t u l r h g = two_good t u ty.bool (on_binary Eq) l r h g (λ x y p q. tt)
   equality_good _ ne t u l r h g = two_good t u ty.bool (on_binary Ne) l r h g (λ x y p q. tt)
 
-  logic_good : (o : BinaryOp) → IsLogical o → (l r : Costed Value) → Good (ValueOf ty.bool) l → Good (ValueOf ty.bool) r → Good (ValueOf ty.bool) (both o l r)
+  logic_good : (o : BinaryOp) → IsLogical o → (l r : Costed Value) → Good (ValueOf ty.bool) l → Good (ValueOf ty.bool) r → Good (ValueOf ty.bool) (both_sides o l r)
   logic_good _ and l r h g = binds (λ b. Unit {0}) (ValueOf ty.bool) (truth l) _ (bool_good l h) (λ b k. either_good b r (at_no_cost (Ok (bool false))) g tt)
   logic_good _ or l r h g = binds (λ b. Unit {0}) (ValueOf ty.bool) (truth l) _ (bool_good l h) (λ b k. either_good b (at_no_cost (Ok (bool true))) r tt g)
 
@@ -301,29 +301,29 @@ module _ (env : Env) (layout : StoreTyping) (s : C0State) (scene : SafeState env
         let r : resolved env a ≡ a = cc in
         let w : resolved env b ≡ b = cc in
         let c = and_parts (is_plain_expr a) (is_plain_expr b) p in
-        pays (ValueOf ty.int) 1 (both o (value_of a s) (value_of b s)) (arithmetic_good o k (value_of a s) (value_of b s) (value_good a ty.int h r c.0) (value_good b ty.int g w c.1))
+        pays (ValueOf ty.int) 1 (both_sides o (value_of a s) (value_of b s)) (arithmetic_good o k (value_of a s) (value_of b s) (value_good a ty.int h r c.0) (value_good b ty.int g w c.1))
     value_good _ _ (order {o = o} {a = a} {b = b} k h g) q p =
         let r : resolved env a ≡ a = cc in
         let w : resolved env b ≡ b = cc in
         let c = and_parts (is_plain_expr a) (is_plain_expr b) p in
-        pays (ValueOf ty.bool) 1 (both o (value_of a s) (value_of b s)) (order_good o k (value_of a s) (value_of b s) (value_good a ty.int h r c.0) (value_good b ty.int g w c.1))
+        pays (ValueOf ty.bool) 1 (both_sides o (value_of a s) (value_of b s)) (order_good o k (value_of a s) (value_of b s) (value_good a ty.int h r c.0) (value_good b ty.int g w c.1))
     value_good _ _ (logic {o = o} {a = a} {b = b} k h g) q p =
         let r : resolved env a ≡ a = cc in
         let w : resolved env b ≡ b = cc in
         let c = and_parts (is_plain_expr a) (is_plain_expr b) p in
-        pays (ValueOf ty.bool) 1 (both o (value_of a s) (value_of b s)) (logic_good o k (value_of a s) (value_of b s) (value_good a ty.bool h r c.0) (value_good b ty.bool g w c.1))
+        pays (ValueOf ty.bool) 1 (both_sides o (value_of a s) (value_of b s)) (logic_good o k (value_of a s) (value_of b s) (value_good a ty.bool h r c.0) (value_good b ty.bool g w c.1))
     value_good _ _ (equality {o = o} {a = a} {b = b} {t = t} k scalar h g) q p =
         let r : resolved env a ≡ a = cc in
         let w : resolved env b ≡ b = cc in
         let c = and_parts (is_plain_expr a) (is_plain_expr b) p in
-        pays (ValueOf ty.bool) 1 (both o (value_of a s) (value_of b s)) (equality_good o k t t (value_of a s) (value_of b s) (value_good a t h r c.0) (value_good b t g w c.1))
+        pays (ValueOf ty.bool) 1 (both_sides o (value_of a s) (value_of b s)) (equality_good o k t t (value_of a s) (value_of b s) (value_good a t h r c.0) (value_good b t g w c.1))
     value_good _ _ (null_left {o = o} {b = b} {t = t} k g) q p =
         let w : resolved env b ≡ b = cc in
-        pays (ValueOf ty.bool) 1 (both o (costs 1 (Ok null)) (value_of b s)) (equality_good o k (ty.pointer t) (ty.pointer t) (costs 1 (Ok null)) (value_of b s) tt (value_good b (ty.pointer t) g w p))
+        pays (ValueOf ty.bool) 1 (both_sides o (costs 1 (Ok null)) (value_of b s)) (equality_good o k (ty.pointer t) (ty.pointer t) (costs 1 (Ok null)) (value_of b s) tt (value_good b (ty.pointer t) g w p))
     value_good _ _ (null_right {o = o} {a = a} {t = t} k h) q p =
         let r : resolved env a ≡ a = cc in
         let c = and_parts (is_plain_expr a) true p in
-        pays (ValueOf ty.bool) 1 (both o (value_of a s) (costs 1 (Ok null))) (equality_good o k (ty.pointer t) (ty.pointer t) (value_of a s) (costs 1 (Ok null)) (value_good a (ty.pointer t) h r c.0) tt)
+        pays (ValueOf ty.bool) 1 (both_sides o (value_of a s) (costs 1 (Ok null))) (equality_good o k (ty.pointer t) (ty.pointer t) (value_of a s) (costs 1 (Ok null)) (value_good a (ty.pointer t) h r c.0) tt)
 
     pub place_good : (e : CExpr) (t : Ty) → HasType env e t → IsTrue (is_lvalue e) → resolved env e ≡ e → is_plain_expr e ≡ true → Good (IsAt env layout (is_local env e) t) (place_of e s)
     place_good _ _ (a_variable {x = x} {v = v} h) there q p =

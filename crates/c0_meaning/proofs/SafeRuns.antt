@@ -31,7 +31,7 @@ use Rattle.c0_meaning.specs.World.{Setting, Cost, units, plus, total, Configurat
 use Rattle.c0_meaning.specs.Running.{Target, into, outward, Work, act_on, finish, again, leave, begin, Step, Go, Stop, push, then_go, store, deliver, enter, call_function, call_with, allocate, test_loop, act_statement, work_step}
 use Rattle.c0_meaning.specs.Execution.{Outcome, Failed, NotYet, then_run, execute, call_first}
 use Rattle.c0_meaning.specs.TypedState.{StoreTyping, types_of, Fits, AllFit, variable_types, IsTypedFrame, store_typing, IsTypedWith, AreDeclared, AnswersFit, IsSafeAt, RunIsSafe, AnswersTyped}
-use Rattle.c0_meaning.proofs.Fields.{zero_fits, zeros_fit}
+use Rattle.c0_meaning.proofs.TypesHaveWords.{zero_fits, zeros_fit}
 use Rattle.c0_meaning.proofs.ValueParts.{fits_more, joined_fit}
 use Rattle.c0_meaning.proofs.OperatorsInRange.{int_of_fits}
 use Rattle.c0_meaning.proofs.SafeExpressions.{Good, SafeState, IsAt, given_good, place_good, values_good, bool_good}

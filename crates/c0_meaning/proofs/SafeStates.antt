@@ -26,7 +26,7 @@ use Rattle.c0_meaning.specs.Sound.{shapes}
 use Rattle.c0_meaning.specs.Statement.{numbered_callee, stmt_resolved, stmts_resolved}
 use Rattle.c0_meaning.specs.Typed.{AreKnown, IsTypedFunction}
 use Rattle.c0_meaning.specs.Unit.{IsWellFormed, resolved_function, resolved_functions, resolved_body}
-use Rattle.c0_meaning.proofs.Faultless.{nonempty}
+use Rattle.c0_meaning.proofs.FaultlessIsTyped.{nonempty}
 use Rattle.c0_meaning.proofs.WellTypedUnits.{units_are_faultless}
 use Rattle.c0_meaning.specs.Value.{Region, globals, heap, locals, Value, int, bool, null, at, group, Values, empty, part, count, part_count, with_part, value_with}
 use Rattle.c0_meaning.specs.State.{Frame, write}

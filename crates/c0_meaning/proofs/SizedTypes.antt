@@ -15,7 +15,7 @@ use Rattle.c0_meaning.specs.Words.{words, all_words}
 use Rattle.c0_meaning.specs.Resolved.{IsResolved}
 use Rattle.c0_meaning.specs.Sizes.{WORDS_CAP, capped, struct_sizes}
 use Rattle.c0_meaning.specs.Sound.{IsSized, IsSizedFunction}
-use Rattle.c0_meaning.proofs.Capped.{capped_product}
+use Rattle.c0_meaning.proofs.CappedProducts.{capped_product}
 use Rattle.c0_meaning.proofs.SearchByName.{found_below, found_there, found_name, got_mapped}
 
 shapes_length : (items : List StructDef) → length (map shape_of (map struct_view items)) ≡ length items

@@ -3,7 +3,7 @@ use Rattle.std.proofs.Common.{◌≡◌, ℕ, zero, suc, ◌*◌, List, [], ◌�
 use Rattle.std.specs.Prelude.{if◌then◌else◌}
 use Rattle.c0_meaning.specs.Ty.{Ty, int, bool, pointer, named, array}
 use Rattle.c0_meaning.specs.Env.{Typed, Shape}
-use Rattle.c0_meaning.specs.Words.{fields_named, holds, words_with, all_words_with, words_within, struct_words}
+use Rattle.c0_meaning.specs.Words.{shape_fields, holds, words_with, all_words_with, words_within, struct_words}
 use Rattle.c0_meaning.specs.Value.{Value, group, Values, empty, repeated, zero_with, zeros_with, zero_within}
 use Rattle.c0_meaning.specs.RunLaws.{ZeroHasWords, scalars, all_scalars}
 
@@ -29,7 +29,7 @@ unless false vs n e = e
 opened : (depth : ℕ) (structs : List Shape) (x : List ℕ) → scalars (zero_within depth structs x) ≡ words_within depth structs x
 opened zero structs x = refl
 opened (suc depth) structs x =
-    unless (holds structs x x) _ _ (zeros_words (zero_within depth structs) (words_within depth structs) (λ y. opened depth structs y) (fields_named structs x))
+    unless (holds structs x x) _ _ (zeros_words (zero_within depth structs) (words_within depth structs) (λ y. opened depth structs y) (shape_fields structs x))
 
 pub zero_has_words : ZeroHasWords
 unfolding struct_words

@@ -6,7 +6,7 @@ use Rattle.std.proofs.lemmas.Slice.Eq.{bytes_eq-Decides}
 use Rattle.std.specs.Str.{bytes_eq}
 use Rattle.c0_meaning.specs.Ty.{Ty, int, bool, pointer, named, array}
 use Rattle.c0_meaning.specs.Env.{Typed, Shape, first_named, fields_of}
-use Rattle.c0_meaning.specs.Words.{is_made_of, fields_named, have_field, has_field_of, by_field, by_part, holds, words_with, all_words_with, words_within, struct_words, words, all_words, WordsAreThose}
+use Rattle.c0_meaning.specs.Words.{is_made_of, shape_fields, have_field, has_field_of, by_field, by_part, holds, words_with, all_words_with, words_within, struct_words, words, all_words, WordsAreThose}
 use Rattle.c0_meaning.proofs.StructHolding.{Among, holds_as_tested}
 
 -- how many pass a test
@@ -82,26 +82,26 @@ found_among (s ∷ rest) x k =
     ]
 
 -- a struct has no fields, or it is defined
-pub is_defined : (structs : List Shape) (x : List ℕ) → ((fields_named structs x ≡ []) ⊎ Among (map (λ s. s.text) structs) x)
+pub is_defined : (structs : List Shape) (x : List ℕ) → ((shape_fields structs x ≡ []) ⊎ Among (map (λ s. s.text) structs) x)
 is_defined structs x = found_among structs x 0
 
 -- a struct that holds itself has no words at any depth
 cycle_zero : (structs : List Shape) (k : ℕ) (x : List ℕ) → holds structs x x ≡ true → words_within k structs x ≡ 0
 cycle_zero structs zero x h = refl
-cycle_zero structs (suc k) x h = cond-true (holds structs x x) 0 (all_words_with (words_within k structs) (fields_named structs x)) h
+cycle_zero structs (suc k) x h = cond-true (holds structs x x) 0 (all_words_with (words_within k structs) (shape_fields structs x)) h
 
 -- a struct without fields has no words at any depth
-empty_zero : (structs : List Shape) (k : ℕ) (x : List ℕ) → fields_named structs x ≡ [] → words_within k structs x ≡ 0
+empty_zero : (structs : List Shape) (k : ℕ) (x : List ℕ) → shape_fields structs x ≡ [] → words_within k structs x ≡ 0
 empty_zero structs zero x h = refl
 empty_zero structs (suc k) x h =
     elim (cases_Bool (holds structs x x)) [
-      | inl e ↦ cond-true (holds structs x x) 0 (all_words_with (words_within k structs) (fields_named structs x)) e
-      | inr e ↦ cond-false (holds structs x x) 0 (all_words_with (words_within k structs) (fields_named structs x)) e ∙ ap (all_words_with (words_within k structs)) h
+      | inl e ↦ cond-true (holds structs x x) 0 (all_words_with (words_within k structs) (shape_fields structs x)) e
+      | inr e ↦ cond-false (holds structs x x) 0 (all_words_with (words_within k structs) (shape_fields structs x)) e ∙ ap (all_words_with (words_within k structs)) h
     ]
 
 -- a struct that doesn't hold itself, opened once
-opened : (structs : List Shape) (k : ℕ) (x : List ℕ) → holds structs x x ≡ false → words_within (suc k) structs x ≡ all_words_with (words_within k structs) (fields_named structs x)
-opened structs k x h = cond-false (holds structs x x) 0 (all_words_with (words_within k structs) (fields_named structs x)) h
+opened : (structs : List Shape) (k : ℕ) (x : List ℕ) → holds structs x x ≡ false → words_within (suc k) structs x ≡ all_words_with (words_within k structs) (shape_fields structs x)
+opened structs k x h = cond-false (holds structs x x) 0 (all_words_with (words_within k structs) (shape_fields structs x)) h
 
 -- the words of a type depend only on those of the structs that it is made of
 pub words_with_same : (f g : List ℕ → ℕ) (t : Ty) → ((y : List ℕ) → is_made_of y t ≡ true → f y ≡ g y) → words_with f t ≡ words_with g t
@@ -125,7 +125,7 @@ deep_enough structs (suc k) zero x p q = absurd (omega arith)
 deep_enough structs (suc k) (suc m) x p q =
     elim (cases_Bool (holds structs x x)) [
       | inl e ↦ cycle_zero structs (suc k) x e ∙ sym (cycle_zero structs (suc m) x e)
-      | inr e ↦ opened structs k x e ∙ (all_words_with_same (words_within k structs) (words_within m structs) (fields_named structs x)
+      | inr e ↦ opened structs k x e ∙ (all_words_with_same (words_within k structs) (words_within m structs) (shape_fields structs x)
           (λ y field.
           elim (cases_Bool (holds structs y y)) [
             | inl c ↦ cycle_zero structs k y c ∙ sym (cycle_zero structs m y c)
@@ -155,7 +155,7 @@ part_same structs k x y len loose there field =
           ]
     ]
 
-fields_at : (structs : List Shape) (n : ℕ) (x : List ℕ) → length structs ≡ n → holds structs x x ≡ false → words_within n structs x ≡ all_words_with (words_within n structs) (fields_named structs x)
+fields_at : (structs : List Shape) (n : ℕ) (x : List ℕ) → length structs ≡ n → holds structs x x ≡ false → words_within n structs x ≡ all_words_with (words_within n structs) (shape_fields structs x)
 fields_at structs zero x len loose =
     elim (is_defined structs x) [
       | inl none ↦ sym (ap (all_words_with (words_within zero structs)) none)
@@ -164,11 +164,11 @@ fields_at structs zero x len loose =
 fields_at structs (suc k) x len loose =
     elim (is_defined structs x) [
       | inl none ↦ empty_zero structs (suc k) x none ∙ sym (ap (all_words_with (words_within (suc k) structs)) none)
-      | inr among ↦ opened structs k x loose ∙ all_words_with_same (words_within k structs) (words_within (suc k) structs) (fields_named structs x) (λ y field. part_same structs k x y len loose among field)
+      | inr among ↦ opened structs k x loose ∙ all_words_with_same (words_within k structs) (words_within (suc k) structs) (shape_fields structs x) (λ y field. part_same structs k x y len loose among field)
     ]
 
 -- a struct that doesn't hold itself has the words of its fields
-pub fields_words : (structs : List Shape) (x : List ℕ) → holds structs x x ≡ false → words structs (named x) ≡ all_words structs (fields_named structs x)
+pub fields_words : (structs : List Shape) (x : List ℕ) → holds structs x x ≡ false → words structs (named x) ≡ all_words structs (shape_fields structs x)
 unfolding struct_words
 fields_words structs x loose = fields_at structs (length structs) x refl loose
 

@@ -8,10 +8,10 @@ use Rattle.c0_tree.specs.Tree.{CName, CExpr, num, true_, false_, null, var, fiel
 use Rattle.c0_meaning.specs.Ty.{Ty, int, bool, pointer, named, array, same_ty, is_scalar}
 use Rattle.c0_meaning.specs.Env.{Env, Typed, Variable, field_named}
 use Rattle.c0_meaning.specs.Fault.{Fault, fault, WRONG_TYPE}
-use Rattle.c0_meaning.specs.Expression.{Verdict, has, wrong, type_given, own, one, both, span_of, is_lvalue, is_local, is_null, is_pointer, is_null_for, type_asked, variable_rule, sought_rule, member, target, place_field_rule, arrow_rule, index_rule, deref_rule, address_rule, unary_rule, alike_rule, binary_rule, operand_type, verdict, type_of, faults}
+use Rattle.c0_meaning.specs.Expression.{Verdict, has, wrong, type_given, own, rule_on_one, rule_on_both, span_of, is_lvalue, is_local, is_null, is_pointer, is_null_for, type_asked, variable_rule, sought_rule, member, target, place_field_rule, arrow_rule, index_rule, deref_rule, address_rule, unary_rule, alike_rule, binary_rule, operand_type, verdict, type_of, faults}
 use Rattle.c0_meaning.specs.Judgement.{IsArithmetic, add, sub, mul, div, rem, IsOrdering, lt, le, gt, ge, IsEquality, eq, ne, IsLogical, and, or, HasType, a_number, a_true, a_false, a_variable, a_field, a_target_field, an_element, a_target, an_address, a_negative, a_negation, arithmetic, order, logic, equality, null_left, null_right, TypedIsFaultless, HasOneType}
 use Rattle.c0_meaning.proofs.TypeEquality.{same_ty-itself}
-use Rattle.c0_meaning.proofs.Operands.{right_free, unfilled}
+use Rattle.c0_meaning.proofs.ComparedOperands.{right_free, unfilled}
 
 -- an expression whose node's rule gives a type, and whose parts have no fault
 record Good (env : Env) (e : CExpr) (t : Ty) : Type 0 where
@@ -29,7 +29,7 @@ good_field : (env : Env) (s : Span) (e : CExpr) (f : CName) (x : List ℕ) (p : 
     → is_lvalue e ≡ true → Good env e (named x) → field_named env x f.text ≡ Some p → Good env (field s e f) p.1.ty
 good_field env s e f x p place a found =
     let v : verdict env (field s e f) ≡ has p.1.ty =
-    ap (λ (w : Verdict). one (type_given w) (place_field_rule s (is_lvalue e) (span_of e) f.span (member env (type_given w) f.text))) a.typed
+    ap (λ (w : Verdict). rule_on_one (type_given w) (place_field_rule s (is_lvalue e) (span_of e) f.span (member env (type_given w) f.text))) a.typed
     ∙ in_place s (span_of e) f.span (is_lvalue e) (field_named env x f.text) p x place found in
     record { typed = v; clean = no_faults _ _ a.clean (ap own v) }
 
@@ -37,32 +37,32 @@ good_arrow : (env : Env) (s : Span) (e : CExpr) (f : CName) (x : List ℕ) (p : 
     → Good env e (pointer (named x)) → field_named env x f.text ≡ Some p → Good env (arrow s e f) p.1.ty
 good_arrow env s e f x p a found =
     let v : verdict env (arrow s e f) ≡ has p.1.ty =
-    ap (λ (w : Verdict). one (type_given w) (arrow_rule s f.span (member env (target (type_given w)) f.text))) a.typed ∙ ap (sought_rule f.span) found in
+    ap (λ (w : Verdict). rule_on_one (type_given w) (arrow_rule s f.span (member env (target (type_given w)) f.text))) a.typed ∙ ap (sought_rule f.span) found in
     record { typed = v; clean = no_faults _ _ a.clean (ap own v) }
 
 good_element : (env : Env) (s : Span) (e i : CExpr) (t : Ty) (n : ℕ) → is_lvalue e ≡ true → Good env e (array t n) → Good env i int → Good env (index s e i) t
 good_element env s e i t n p a b =
     let v : verdict env (index s e i) ≡ has t =
-    ap (λ (x : Verdict). both (type_given x) (type_given (verdict env i)) (index_rule s (is_lvalue e) (span_of e))) a.typed
-    ∙ (ap (λ (x : Verdict). both (Some (array t n)) (type_given x) (index_rule s (is_lvalue e) (span_of e))) b.typed
+    ap (λ (x : Verdict). rule_on_both (type_given x) (type_given (verdict env i)) (index_rule s (is_lvalue e) (span_of e))) a.typed
+    ∙ (ap (λ (x : Verdict). rule_on_both (Some (array t n)) (type_given x) (index_rule s (is_lvalue e) (span_of e))) b.typed
     ∙ ap (λ (x : Bool). index_rule s x (span_of e) (array t n) int) p) in
     record { typed = v; clean = no_faults _ _ a.clean (no_faults _ _ b.clean (ap own v)) }
 
 good_target : (env : Env) (s : Span) (e : CExpr) (t : Ty) → Good env e (pointer t) → Good env (deref s e) t
 good_target env s e t a =
-    let v : verdict env (deref s e) ≡ has t = ap (λ (x : Verdict). one (type_given x) (deref_rule s)) a.typed in
+    let v : verdict env (deref s e) ≡ has t = ap (λ (x : Verdict). rule_on_one (type_given x) (deref_rule s)) a.typed in
     record { typed = v; clean = no_faults _ _ a.clean (ap own v) }
 
 good_address : (env : Env) (s : Span) (e : CExpr) (t : Ty) → is_lvalue e ≡ true → is_local env e ≡ false → Good env e t → Good env (address s e) (pointer t)
 good_address env s e t p l a =
     let v : verdict env (address s e) ≡ has (pointer t) =
-    ap (λ (x : Verdict). one (type_given x) (address_rule (is_lvalue e) (is_local env e) (span_of e))) a.typed
+    ap (λ (x : Verdict). rule_on_one (type_given x) (address_rule (is_lvalue e) (is_local env e) (span_of e))) a.typed
     ∙ (ap (λ (x : Bool). address_rule x (is_local env e) (span_of e) t) p ∙ ap (λ (x : Bool). address_rule true x (span_of e) t) l) in
     record { typed = v; clean = no_faults _ _ a.clean (ap own v) }
 
 good_unary : (env : Env) (s : Span) (o : UnaryOp) (e : CExpr) (t : Ty) → unary_rule s o t ≡ has t → Good env e t → Good env (unary s o e) t
 good_unary env s o e t rule a =
-    let v : verdict env (unary s o e) ≡ has t = ap (λ (x : Verdict). one (type_given x) (unary_rule s o)) a.typed ∙ rule in
+    let v : verdict env (unary s o e) ≡ has t = ap (λ (x : Verdict). rule_on_one (type_given x) (unary_rule s o)) a.typed ∙ rule in
     record { typed = v; clean = no_faults _ _ a.clean (ap own v) }
 
 not_null : (env : Env) (e : CExpr) (t : Ty) → verdict env e ≡ has t → is_null e ≡ false
@@ -89,7 +89,7 @@ from_operands env s o a b x y t u r fx fy p q c d rule =
     let left : type_asked (operand_type o (type_of env b)) a (type_of env a) ≡ Some t = ap (λ v. if v then operand_type o (type_of env b) else type_of env a) fx ∙ p in
     let right : type_asked (operand_type o (type_of env a)) b (type_of env b) ≡ Some u = ap (λ v. if v then operand_type o (type_of env a) else type_of env b) fy ∙ q in
     let v : verdict env (binary s o a b) ≡ has r =
-    ap (λ z. both z (type_asked (operand_type o (type_of env a)) b (type_of env b)) (binary_rule s o)) left ∙ (ap (λ z. both (Some t) z (binary_rule s o)) right ∙ rule) in
+    ap (λ z. rule_on_both z (type_asked (operand_type o (type_of env a)) b (type_of env b)) (binary_rule s o)) left ∙ (ap (λ z. rule_on_both (Some t) z (binary_rule s o)) right ∙ rule) in
     record {
       typed = v;
       clean = no_faults _ _ (ap (λ v. if v then [] else faults env a) fx ∙ c)

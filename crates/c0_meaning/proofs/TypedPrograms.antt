@@ -11,7 +11,7 @@ use Rattle.c0_tree.specs.Primitives.{primitives_of}
 use Rattle.c0_tree.specs.Tree.{CDecl, CFunction}
 use Rattle.c0_meaning.specs.Ty.{Ty, int, ty_of, same_ty}
 use Rattle.c0_meaning.specs.Limits.{is_asm, are_three_ints, is_first, none_first, first_faults, whole_span}
-use Rattle.c0_meaning.specs.Typed.{IsFirstFunction, HasFirst, ProgramsAreFaultless}
+use Rattle.c0_meaning.specs.Typed.{IsFirstFunction, HasFirstFunction, ProgramsAreFaultless}
 use Rattle.c0_meaning.specs.Unit.{unit_faults}
 use Rattle.c0_meaning.proofs.TypeEquality.{equal-same_ty}
 use Rattle.c0_meaning.proofs.WellTypedUnits.{units_are_faultless, nothing_said}
@@ -93,7 +93,7 @@ passes User f d =
     and_from _ _ ((bytes_eq-Decides f.name.text (codes "main")).1 d.named)
     (and_from _ _ (params_none f.params d.params) (and_from _ _ (is_int (ty_of f.answer) d.answer) (ap not d.in_code)))
 
-found : (program : Program) (fs : List CFunction) → list_any (is_first program) fs ≡ true → HasFirst program fs
+found : (program : Program) (fs : List CFunction) → list_any (is_first program) fs ≡ true → HasFirstFunction program fs
 found program [] h = absurd (false≢true h)
 found program (f ∷ fs) h =
     elim (or_cases (is_first program f) (list_any (is_first program) fs) h) [

@@ -9,7 +9,7 @@ use Rattle.c0_tree.specs.Tree.{named, CName}
 use Rattle.c0_meaning.specs.Ty.{Ty}
 use Rattle.c0_meaning.specs.Env.{Shape, Typed, shape_of, typed_of, fields_of}
 use Rattle.c0_meaning.specs.Form.{ty_view}
-use Rattle.c0_meaning.specs.Words.{fields_named}
+use Rattle.c0_meaning.specs.Words.{shape_fields}
 use Rattle.c0_meaning.specs.Resolved.{IsResolved}
 use Rattle.c0_meaning.specs.Sound.{IsSized, IsSizedStruct}
 use Rattle.c0_meaning.proofs.SearchByName.{found_there}
@@ -48,7 +48,7 @@ shape_there (x ∷ rest) (suc n) d below = shape_there rest n d (omega arith)
 
 -- the fields of the struct of a resolved name are those at its number
 pub fields_there : (items : List StructDef) (x : CName) (d : StructDef) → IsResolved (map shape_of (map struct_view items)) (named x)
-    → map typed_of (map decl_view (get_or items x.number d).fields.items) ≡ fields_named (map shape_of (map struct_view items)) x.text
+    → map typed_of (map decl_view (get_or items x.number d).fields.items) ≡ shape_fields (map shape_of (map struct_view items)) x.text
 fields_there items x d r =
     let s : Shape = r.1.0 in
     let there = found_there (λ (s : Shape). s.text) (map shape_of (map struct_view items)) x.text x.number s r.1.1 in

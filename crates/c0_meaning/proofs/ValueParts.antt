@@ -4,7 +4,7 @@ use Rattle.std.specs.Prelude.{slice_get, replicate, option_and_then}
 use Rattle.c0_meaning.specs.Ty.{Ty}
 use Rattle.c0_meaning.specs.Ty as ty
 use Rattle.c0_meaning.specs.Env.{Shape}
-use Rattle.c0_meaning.specs.Words.{fields_named}
+use Rattle.c0_meaning.specs.Words.{shape_fields}
 use Rattle.c0_meaning.specs.Value.{Region, globals, heap, locals, Value, int, bool, null, at, group, Values, empty, part, nth, change_nth, followed_by, count, get, value_with}
 use Rattle.c0_meaning.specs.TypedState.{StoreTyping, types_of, PathLeads, LeadsFrom, PointsTo, Fits, AllFit, AreParts}
 
@@ -57,7 +57,7 @@ module _ (structs : List Shape) (layout : StoreTyping) where
 
   pub get_fits : (t : Ty) (path : List ℕ) (u : Ty) (v : Value) → PathLeads structs t path u → Fits structs layout t v → Has (get v path) u
   get_fits t [] u v l h = record { value = v; is = refl; fits = subst (λ w. Fits structs layout w v) l h }
-  get_fits (ty.named x) (i ∷ path) u (group vs) l h = get_from path u (nth vs i) l.0 (nth_fits (types_of (fields_named structs x)) vs i l.0 h l.1) (λ v g. get_fits l.0 path u v l.2 g)
+  get_fits (ty.named x) (i ∷ path) u (group vs) l h = get_from path u (nth vs i) l.0 (nth_fits (types_of (shape_fields structs x)) vs i l.0 h l.1) (λ v g. get_fits l.0 path u v l.2 g)
   get_fits (ty.array t n) (i ∷ path) u (group vs) l h = get_from path u (nth vs i) t (nth_fits (replicate n t) vs i t h (there t n i l.0)) (λ v g. get_fits t path u v l.1 g)
   get_fits (ty.named x) (i ∷ path) u _ l h = absurd h
   get_fits (ty.array t n) (i ∷ path) u _ l h = absurd h
@@ -76,7 +76,7 @@ module _ (structs : List Shape) (layout : StoreTyping) where
 
   pub put_fits : (t : Ty) (path : List ℕ) (u : Ty) (v x : Value) → PathLeads structs t path u → Fits structs layout t v → Fits structs layout u x → Fits structs layout t (value_with v path x)
   put_fits t [] u v x l h g = subst (λ w. Fits structs layout w x) (sym l) g
-  put_fits (ty.named y) (i ∷ path) u (group vs) x l h g = change_fits (types_of (fields_named structs y)) vs i l.0 (λ w. value_with w path x) h l.1 (λ v k. put_fits l.0 path u v x l.2 k g)
+  put_fits (ty.named y) (i ∷ path) u (group vs) x l h g = change_fits (types_of (shape_fields structs y)) vs i l.0 (λ w. value_with w path x) h l.1 (λ v k. put_fits l.0 path u v x l.2 k g)
   put_fits (ty.array t n) (i ∷ path) u (group vs) x l h g = change_fits (replicate n t) vs i t (λ w. value_with w path x) h (there t n i l.0) (λ v k. put_fits t path u v x l.1 k g)
   put_fits (ty.named y) (i ∷ path) u _ x l h g = absurd h
   put_fits (ty.array t n) (i ∷ path) u _ x l h g = absurd h
@@ -133,7 +133,7 @@ module _ (structs : List Shape) (layout : StoreTyping) (more : List Ty) where
     fits_more ty.bool (bool b) h = h
     fits_more (ty.pointer t) null h = tt
     fits_more (ty.pointer t) (at l) h = points_more l.region l.path t h
-    fits_more (ty.named x) (group vs) h = all_more (types_of (fields_named structs x)) vs h
+    fits_more (ty.named x) (group vs) h = all_more (types_of (shape_fields structs x)) vs h
     fits_more (ty.array t n) (group vs) h = all_more (replicate n t) vs h
     fits_more _ _ h = absurd h
 

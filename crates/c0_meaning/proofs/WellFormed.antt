@@ -18,7 +18,7 @@ use Rattle.c0_meaning.specs.Ty.{Ty, ty_of}
 use Rattle.c0_meaning.specs.Ty as ty
 use Rattle.c0_meaning.specs.Env.{Env, Shape, first_named, fields_of, shape_of, typed_of, env_of}
 use Rattle.c0_meaning.specs.Fault.{fault, NAME_TWICE, STRUCT_HOLDS_ITSELF, TYPE_TOO_LARGE, EMPTY_ARRAY, TOO_MANY_PARAMETERS, TOO_MANY_NODES}
-use Rattle.c0_meaning.specs.Words.{fields_named, holds, words}
+use Rattle.c0_meaning.specs.Words.{shape_fields, holds, words}
 use Rattle.c0_meaning.specs.DeclaredTypes.{MAX_TYPE_WORDS, fault_if, unknown_structs, has_empty_array, is_too_large, type_faults, declared_faults, pass_fault, pass_faults}
 use Rattle.c0_meaning.specs.Names.{is_among, twice_faults, struct_name_faults, unit_name_faults, decl_name_faults}
 use Rattle.c0_meaning.specs.Limits.{MAX_FUNCTION_NODES, is_asm, locals_of, words_held, nodes_of, max_parameters}
@@ -122,7 +122,7 @@ first_of_name before (s ∷ rest) k (suc i) d h below =
     ∙ first_of_name (before ++ s.name.text ∷ []) rest (suc k) i d later (omega arith)
 
 -- a struct without faults that resolving leaves as it is, and the first of its name, is sized
-struct_sized : (structs : List Shape) (k : ℕ) (s : CStruct) → struct_faults structs s ≡ [] → resolved_decls structs Field 0 s.fields ≡ s.fields → fields_named structs s.name.text ≡ map typed_of s.fields → IsSizedStruct structs s
+struct_sized : (structs : List Shape) (k : ℕ) (s : CStruct) → struct_faults structs s ≡ [] → resolved_decls structs Field 0 s.fields ≡ s.fields → shape_fields structs s.name.text ≡ map typed_of s.fields → IsSizedStruct structs s
 struct_sized structs k s h r first =
     let a = none_in_right (fault_if (holds structs s.name.text s.name.text) STRUCT_HOLDS_ITSELF s.name.span) _ h in
     let b = none_in_right (fault_if (is_too_large structs (ty.named s.name.text)) TYPE_TOO_LARGE s.name.span) _ a in
@@ -135,7 +135,7 @@ struct_sized structs k s h r first =
 
 -- each struct of a list is sized, where each is the first of its name
 structs_sized : (structs : List Shape) (k : ℕ) (rest : List CStruct) → structs_faults structs rest ≡ [] → resolved_structs structs k rest ≡ rest →
-    ((i : ℕ) (d : CStruct) → i < length rest → fields_named structs (get_or rest i d).name.text ≡ map typed_of (get_or rest i d).fields) → All (IsSizedStruct structs) rest
+    ((i : ℕ) (d : CStruct) → i < length rest → shape_fields structs (get_or rest i d).name.text ≡ map typed_of (get_or rest i d).fields) → All (IsSizedStruct structs) rest
 structs_sized structs k [] h r first = All-nil (IsSizedStruct structs)
 structs_sized structs k (s ∷ rest) h r first =
     All-cons (IsSizedStruct structs) s rest

@@ -24,7 +24,7 @@ use Rattle.c0_meaning.specs.Typed.{AreKnown, IsDeclarable, AreSetOnce, IsTypedSt
 use Rattle.c0_meaning.proofs.StructHolding.{holds_as_tested}
 use Rattle.c0_meaning.proofs.WellFormed.{none_in_left, none_in_right, nothing_wrong, among_parts, not_twice, no_or}
 use Rattle.c0_meaning.proofs.AskedTypes.{tested_is_faultless}
-use Rattle.c0_meaning.proofs.Statements.{statements_are_faultless}
+use Rattle.c0_meaning.proofs.TypedStatements.{statements_are_faultless}
 
 -- two lists without elements
 join_none : {A : Type 0} (xs ys : List A) → xs ≡ [] → ys ≡ [] → xs ++ ys ≡ []

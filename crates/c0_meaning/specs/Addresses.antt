@@ -4,28 +4,28 @@ use Rattle.c0_tree.specs.Primitives.{CPrimitive}
 use Rattle.c0_tree.specs.Tree.{CUnit}
 use Rattle.c0_meaning.specs.Ty.{Ty, int, named, array}
 use Rattle.c0_meaning.specs.Env.{Shape}
-use Rattle.c0_meaning.specs.Words.{fields_named, words}
+use Rattle.c0_meaning.specs.Words.{shape_fields, words}
 use Rattle.c0_meaning.specs.Sound.{shapes}
 use Rattle.c0_meaning.specs.Sizes.{words_before}
 use Rattle.c0_meaning.specs.Unit.{IsWellFormed}
 use Rattle.c0_meaning.specs.TypedState.{types_of, LeadsFrom}
 
 -- the type of a number among types
-abbrev pub type_at : List Ty → ℕ → Ty
-type_at types i = unwrap_or (slice_get types i) int
+abbrev pub nth_type : List Ty → ℕ → Ty
+nth_type types i = unwrap_or (slice_get types i) int
 
 -- the words before the part at a path, in a value of a type
 abbrev pub words_to : List Shape → Ty → List ℕ → ℕ
 words_to structs t [] = 0
 words_to structs (named x) (i ∷ path) =
-    let types = types_of (fields_named structs x) in words_before structs types i + words_to structs (type_at types i) path
+    let types = types_of (shape_fields structs x) in words_before structs types i + words_to structs (nth_type types i) path
 words_to structs (array t n) (i ∷ path) = i * words structs t + words_to structs t path
 words_to structs _ (i ∷ path) = 0
 
 -- the words before the part at a path, in values of these types one after another
 abbrev pub words_to_part : List Shape → List Ty → List ℕ → ℕ
 words_to_part structs types [] = 0
-words_to_part structs types (i ∷ path) = words_before structs types i + words_to structs (type_at types i) path
+words_to_part structs types (i ∷ path) = words_before structs types i + words_to structs (nth_type types i) path
 
 -- A law: of variables or objects of a unit that is well formed, different parts of one type that has a word begin at different words. So two
 -- pointers of a type are equal exactly where their addresses are.

@@ -10,38 +10,38 @@ abbrev pub may_use : ℕ → Bool
 may_use r = (r == 0) || (nat_le 2 r && nat_le r 7)
 
 -- the registers of an instruction, each of which an asm function may use
-abbrev pub one : ℕ → Bool
-one r = may_use r
+abbrev pub one_usable : ℕ → Bool
+one_usable r = may_use r
 
 -- both registers may be used
-abbrev pub both : ℕ → ℕ → Bool
-both r s = may_use r && may_use s
+abbrev pub two_usable : ℕ → ℕ → Bool
+two_usable r s = may_use r && may_use s
 
 -- all three registers may be used
-abbrev pub three : ℕ → ℕ → ℕ → Bool
-three r s t = may_use r && (may_use s && may_use t)
+abbrev pub three_usable : ℕ → ℕ → ℕ → Bool
+three_usable r s t = may_use r && (may_use s && may_use t)
 
 -- whether an asm function may have an instruction: one that only computes on registers, without a trap, over registers that it may use
 abbrev pub is_allowed : Inst → Bool
-is_allowed (Sll rd rt sa) = both rd rt
-is_allowed (Srl rd rt sa) = both rd rt
-is_allowed (Sra rd rt sa) = both rd rt
-is_allowed (Sllv rd rt rs) = three rd rt rs
-is_allowed (Srlv rd rt rs) = three rd rt rs
-is_allowed (Srav rd rt rs) = three rd rt rs
+is_allowed (Sll rd rt sa) = two_usable rd rt
+is_allowed (Srl rd rt sa) = two_usable rd rt
+is_allowed (Sra rd rt sa) = two_usable rd rt
+is_allowed (Sllv rd rt rs) = three_usable rd rt rs
+is_allowed (Srlv rd rt rs) = three_usable rd rt rs
+is_allowed (Srav rd rt rs) = three_usable rd rt rs
 is_allowed (Jr rs) = false
 is_allowed (Jalr rd rs) = false
 is_allowed (Syscall code) = false
 is_allowed (Add rd rs rt) = false
-is_allowed (Addu rd rs rt) = three rd rs rt
+is_allowed (Addu rd rs rt) = three_usable rd rs rt
 is_allowed (Sub rd rs rt) = false
-is_allowed (Subu rd rs rt) = three rd rs rt
-is_allowed (And rd rs rt) = three rd rs rt
-is_allowed (Or rd rs rt) = three rd rs rt
-is_allowed (Xor rd rs rt) = three rd rs rt
-is_allowed (Nor rd rs rt) = three rd rs rt
-is_allowed (Slt rd rs rt) = three rd rs rt
-is_allowed (Sltu rd rs rt) = three rd rs rt
+is_allowed (Subu rd rs rt) = three_usable rd rs rt
+is_allowed (And rd rs rt) = three_usable rd rs rt
+is_allowed (Or rd rs rt) = three_usable rd rs rt
+is_allowed (Xor rd rs rt) = three_usable rd rs rt
+is_allowed (Nor rd rs rt) = three_usable rd rs rt
+is_allowed (Slt rd rs rt) = three_usable rd rs rt
+is_allowed (Sltu rd rs rt) = three_usable rd rs rt
 is_allowed (Bltz rs imm) = false
 is_allowed (Bgez rs imm) = false
 is_allowed (J index) = false
@@ -51,13 +51,13 @@ is_allowed (Bne rs rt imm) = false
 is_allowed (Blez rs imm) = false
 is_allowed (Bgtz rs imm) = false
 is_allowed (Addi rt rs imm) = false
-is_allowed (Addiu rt rs imm) = both rt rs
-is_allowed (Slti rt rs imm) = both rt rs
-is_allowed (Sltiu rt rs imm) = both rt rs
-is_allowed (Andi rt rs imm) = both rt rs
-is_allowed (Ori rt rs imm) = both rt rs
-is_allowed (Xori rt rs imm) = both rt rs
-is_allowed (Lui rt imm) = one rt
+is_allowed (Addiu rt rs imm) = two_usable rt rs
+is_allowed (Slti rt rs imm) = two_usable rt rs
+is_allowed (Sltiu rt rs imm) = two_usable rt rs
+is_allowed (Andi rt rs imm) = two_usable rt rs
+is_allowed (Ori rt rs imm) = two_usable rt rs
+is_allowed (Xori rt rs imm) = two_usable rt rs
+is_allowed (Lui rt imm) = one_usable rt
 is_allowed (Mfc0 rt special) = false
 is_allowed (Mtc0 rt special) = false
 is_allowed Eret = false

@@ -15,6 +15,10 @@ use Rattle.c0_meaning.specs.Execution.{dispatch}
 abbrev pub z : Span
 z = record { start = 0; end = 0 }
 
+-- a number without a span
+abbrev pub number : ℕ → CExpr
+number n = num z n
+
 -- a name without spans
 abbrev pub bare_name : CName → CName
 bare_name x = record { text = x.text; span = z; kind = x.kind; number = x.number }

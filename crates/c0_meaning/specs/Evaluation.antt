@@ -56,10 +56,10 @@ abbrev pub truth : Costed Value → Costed Bool
 truth e = e >>= λ v. at_no_cost (bool_of v)
 
 -- the two sides of a binary operator, from left to right: `&&` and `||` evaluate the right side only where the left doesn't decide
-abbrev pub both : BinaryOp → Costed Value → Costed Value → Costed Value
-both And left right = truth left >>= λ b. if b then right else at_no_cost (Ok (bool false))
-both Or left right = truth left >>= λ b. if b then at_no_cost (Ok (bool true)) else right
-both op left right = left >>= λ v. right >>= λ w. at_no_cost (on_binary op v w)
+abbrev pub both_sides : BinaryOp → Costed Value → Costed Value → Costed Value
+both_sides And left right = truth left >>= λ b. if b then right else at_no_cost (Ok (bool false))
+both_sides Or left right = truth left >>= λ b. if b then at_no_cost (Ok (bool true)) else right
+both_sides op left right = left >>= λ v. right >>= λ w. at_no_cost (on_binary op v w)
 
 -- what stands at the location that an evaluation gives
 abbrev pub load_from : C0State → Costed Location → Costed Value
@@ -91,7 +91,7 @@ abbrev mutual
   value_of (deref p e) s = paying 1 (load_from s (pointed (value_of e s)))
   value_of (address p e) s = paying 1 (place_of e s >>= λ l. at_no_cost (Ok (at l)))
   value_of (unary p op e) s = paying 1 (value_of e s >>= λ v. at_no_cost (on_unary op v))
-  value_of (binary p op a b) s = paying 1 (both op (value_of a s) (value_of b s))
+  value_of (binary p op a b) s = paying 1 (both_sides op (value_of a s) (value_of b s))
 
   pub place_of : CExpr → C0State → Costed Location
   place_of (var x) s = paying 1 (at_no_cost (variable_location x.kind x.number))

@@ -31,14 +31,14 @@ own (has t) = []
 own (wrong f) = f ∷ []
 
 -- a rule on one part speaks where the part has a type
-abbrev pub one : Option Ty → (Ty → Verdict) → Verdict
-one None rule = silent
-one (Some t) rule = rule t
+abbrev pub rule_on_one : Option Ty → (Ty → Verdict) → Verdict
+rule_on_one None rule = silent
+rule_on_one (Some t) rule = rule t
 
 -- a rule on two parts speaks where both have types
-abbrev pub both : Option Ty → Option Ty → (Ty → Ty → Verdict) → Verdict
-both None other rule = silent
-both (Some t) other rule = one other (rule t)
+abbrev pub rule_on_both : Option Ty → Option Ty → (Ty → Ty → Verdict) → Verdict
+rule_on_both None other rule = silent
+rule_on_both (Some t) other rule = rule_on_one other (rule t)
 
 -- where an expression stands
 abbrev pub span_of : CExpr → Span
@@ -269,14 +269,14 @@ verdict env (false_ s) = has bool
 verdict env (null s) = wrong (fault WRONG_TYPE s)
 verdict env (var x) = variable_rule x (variable_named env x.text)
 verdict env (field s e f) =
-    one (type_given (verdict env e)) (place_field_rule s (is_lvalue e) (span_of e) f.span (member env (type_given (verdict env e)) f.text))
-verdict env (arrow s e f) = one (type_given (verdict env e)) (arrow_rule s f.span (member env (target (type_given (verdict env e))) f.text))
-verdict env (index s e i) = both (type_given (verdict env e)) (type_given (verdict env i)) (index_rule s (is_lvalue e) (span_of e))
-verdict env (deref s e) = one (type_given (verdict env e)) (deref_rule s)
-verdict env (address s e) = one (type_given (verdict env e)) (address_rule (is_lvalue e) (is_local env e) (span_of e))
-verdict env (unary s o e) = one (type_given (verdict env e)) (unary_rule s o)
+    rule_on_one (type_given (verdict env e)) (place_field_rule s (is_lvalue e) (span_of e) f.span (member env (type_given (verdict env e)) f.text))
+verdict env (arrow s e f) = rule_on_one (type_given (verdict env e)) (arrow_rule s f.span (member env (target (type_given (verdict env e))) f.text))
+verdict env (index s e i) = rule_on_both (type_given (verdict env e)) (type_given (verdict env i)) (index_rule s (is_lvalue e) (span_of e))
+verdict env (deref s e) = rule_on_one (type_given (verdict env e)) (deref_rule s)
+verdict env (address s e) = rule_on_one (type_given (verdict env e)) (address_rule (is_lvalue e) (is_local env e) (span_of e))
+verdict env (unary s o e) = rule_on_one (type_given (verdict env e)) (unary_rule s o)
 verdict env (binary s o a b) =
-    both (type_asked (operand_type o (type_given (verdict env b))) a (type_given (verdict env a)))
+    rule_on_both (type_asked (operand_type o (type_given (verdict env b))) a (type_given (verdict env a)))
     (type_asked (operand_type o (type_given (verdict env a))) b (type_given (verdict env b)))
     (binary_rule s o)
 

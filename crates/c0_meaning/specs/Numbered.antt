@@ -12,7 +12,7 @@ use Rattle.c0_tree.specs.Primitives.{CPrimitive}
 use Rattle.c0_tree.specs.Size.{need}
 use Rattle.c0_meaning.specs.Ty.{Ty, int, bool, pointer, named, array, ty_of, is_scalar}
 use Rattle.c0_meaning.specs.Env.{Env, Typed, Signature, env_of}
-use Rattle.c0_meaning.specs.Words.{fields_named}
+use Rattle.c0_meaning.specs.Words.{shape_fields}
 use Rattle.c0_meaning.specs.Expression.{is_lvalue}
 use Rattle.c0_meaning.specs.Judgement.{IsArithmetic, IsOrdering, IsEquality, IsLogical}
 use Rattle.c0_meaning.specs.Limits.{locals_of}
@@ -43,7 +43,7 @@ callee_at env Primitive n = slice_get env.primitives n
 
 -- the field of a number in the struct of a name
 abbrev pub field_at : Env → List ℕ → ℕ → Option Typed
-field_at env owner n = slice_get (fields_named env.structs owner) n
+field_at env owner n = slice_get (shape_fields env.structs owner) n
 
 -- the kind of a parameter or local
 abbrev pub is_in_frame : Kind → Bool

@@ -4,7 +4,7 @@ use Rattle.c0_tree.specs.Tree.{CUnit}
 use Rattle.c0_tree.specs.Primitives.{CPrimitive}
 use Rattle.c0_meaning.specs.Ty.{Ty, int, bool, pointer, named, array}
 use Rattle.c0_meaning.specs.Env.{Shape, Typed}
-use Rattle.c0_meaning.specs.Words.{StructHolds, fields_named, words}
+use Rattle.c0_meaning.specs.Words.{StructHolds, shape_fields, words}
 use Rattle.c0_meaning.specs.Sound.{shapes}
 use Rattle.c0_meaning.specs.Unit.{IsWellFormed}
 
@@ -35,7 +35,7 @@ all_opened_with struct_opened (d ∷ rest) = more (opened_with struct_opened d.t
 -- the struct of a name written out, where structs are opened so deep
 abbrev pub opened_within : ℕ → List Shape → List ℕ → OpenTy
 opened_within zero structs x = fields none
-opened_within (suc depth) structs x = fields (all_opened_with (opened_within depth structs) (fields_named structs x))
+opened_within (suc depth) structs x = fields (all_opened_with (opened_within depth structs) (shape_fields structs x))
 
 -- a type written out: no struct that doesn't hold itself is deeper than there are structs
 abbrev pub opened : List Shape → Ty → OpenTy

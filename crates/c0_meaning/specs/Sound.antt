@@ -5,7 +5,7 @@ use Rattle.c0_tree.specs.Tree.{CTy, CStruct, CFunction, CUnit}
 use Rattle.c0_meaning.specs.Ty.{ty_of}
 use Rattle.c0_meaning.specs.Ty as ty
 use Rattle.c0_meaning.specs.Env.{Shape, shape_of, typed_of}
-use Rattle.c0_meaning.specs.Words.{fields_named, holds, words, all_words}
+use Rattle.c0_meaning.specs.Words.{shape_fields, holds, words, all_words}
 use Rattle.c0_meaning.specs.DeclaredTypes.{MAX_TYPE_WORDS}
 use Rattle.c0_meaning.specs.Resolved.{IsResolved}
 use Rattle.c0_meaning.specs.Limits.{MAX_FUNCTION_NODES, locals_of}
@@ -25,7 +25,7 @@ pub record IsSized (structs : List Shape) (t : CTy) : Type 0 where
 
 -- a struct that is the first of its name, doesn't hold itself, and has few words and fields of few words
 pub record IsSizedStruct (structs : List Shape) (s : CStruct) : Type 0 where
-  pub first : fields_named structs s.name.text ≡ map typed_of s.fields
+  pub first : shape_fields structs s.name.text ≡ map typed_of s.fields
   pub loose : holds structs s.name.text s.name.text ≡ false
   pub small : words structs (ty.named s.name.text) ≤ MAX_TYPE_WORDS
   pub fields : All (λ d. IsSized structs d.ty) s.fields

@@ -8,7 +8,7 @@ use Rattle.c0_tree.specs.Size.{need, args_need}
 use Rattle.c0_meaning.specs.Ty.{Ty, bool, pointer, ty_of, same_ty, is_scalar}
 use Rattle.c0_meaning.specs.Env.{Env, Callee, callee_named}
 use Rattle.c0_meaning.specs.Fault.{Fault, fault, UNKNOWN_NAME, WRONG_TYPE, WRONG_COUNT, NOT_A_PLACE, TOO_DEEP}
-use Rattle.c0_meaning.specs.Expression.{Verdict, has, wrong, type_given, own, one, both, span_of, is_lvalue, type_asked, asked_faults, type_of, faults, resolved}
+use Rattle.c0_meaning.specs.Expression.{Verdict, has, wrong, type_given, own, rule_on_one, rule_on_both, span_of, is_lvalue, type_asked, asked_faults, type_of, faults, resolved}
 
 -- the registers that an expression may need
 abbrev pub MAX_NEED : ℕ
@@ -24,7 +24,7 @@ same_rule s want t = if same_ty want t then has want else wrong (fault WRONG_TYP
 
 -- what is said of an expression where a type may be asked
 abbrev pub given_verdict : Env → Option Ty → CExpr → Verdict
-given_verdict env want e = both want (type_asked want e (type_of env e)) (same_rule (span_of e))
+given_verdict env want e = rule_on_both want (type_asked want e (type_of env e)) (same_rule (span_of e))
 
 -- the faults of an expression where a type may be asked: a right side, an argument, a condition, a returned expression
 abbrev pub given_faults : Env → Option Ty → CExpr → List Fault
@@ -40,7 +40,7 @@ left_rule place s t = if place then (if is_scalar t then has t else wrong (fault
 
 -- what is said of a left side
 abbrev pub left_verdict : Env → CExpr → Verdict
-left_verdict env p = one (type_of env p) (left_rule (is_lvalue p) (span_of p))
+left_verdict env p = rule_on_one (type_of env p) (left_rule (is_lvalue p) (span_of p))
 
 -- the type that a left side asks of the right side, if it is right itself
 abbrev pub left_type : Env → CExpr → Option Ty
@@ -52,7 +52,7 @@ left_faults env p = faults env p ++ own (left_verdict env p)
 
 -- the fault of a result that is stored: the type that is asked, if one is, and the type that comes
 abbrev pub result_faults : Span → Option Ty → Ty → List Fault
-result_faults s want t = own (one want (λ w. same_rule s w t))
+result_faults s want t = own (rule_on_one want (λ w. same_rule s w t))
 
 -- the faults of a name before `(`, of the number of arguments, and of the result
 abbrev pub callee_faults : Span → CName → Option Ty → ℕ → Option Callee → List Fault

@@ -9,7 +9,7 @@ use Rattle.c0_tree.specs.Primitives.{CPrimitive}
 use Rattle.c0_tree.specs.View.{type_view}
 use Rattle.c0_meaning.specs.Ty.{Ty, int, bool, pointer, named, array}
 use Rattle.c0_meaning.specs.Env.{Env, Shape, Typed, env_of}
-use Rattle.c0_meaning.specs.Words.{fields_named}
+use Rattle.c0_meaning.specs.Words.{shape_fields}
 use Rattle.c0_meaning.specs.Expression.{is_lvalue, target}
 use Rattle.c0_meaning.specs.Limits.{locals_of}
 use Rattle.c0_meaning.specs.Numbered.{variable_at, HasNumberedType}
@@ -31,7 +31,7 @@ field_type structs None n = None
 field_type structs (Some int) n = None
 field_type structs (Some bool) n = None
 field_type structs (Some (pointer t)) n = None
-field_type structs (Some (named x)) n = option_map (λ d. d.ty) (slice_get (fields_named structs x) n)
+field_type structs (Some (named x)) n = option_map (λ d. d.ty) (slice_get (shape_fields structs x) n)
 field_type structs (Some (array t size)) n = None
 
 -- the type of the elements, where a type is an array

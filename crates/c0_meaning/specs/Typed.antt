@@ -98,7 +98,7 @@ pub record IsFirstFunction (program : Program) (f : CFunction) : Type 0 where
   pub in_code : is_asm f.body ≡ false
 
 -- one of functions is so
-pub record HasFirst (program : Program) (functions : List CFunction) : Type 0 where
+pub record HasFirstFunction (program : Program) (functions : List CFunction) : Type 0 where
   pub number : ℕ
   pub function : CFunction
   pub there : slice_get functions number ≡ Some function
@@ -107,7 +107,7 @@ pub record HasFirst (program : Program) (functions : List CFunction) : Type 0 wh
 -- a kernel's unit, or a user program's, that is typed, whose asm bodies hold their words
 pub record IsTypedProgram (program : Program) (u : CUnit) : Type 0 where
   pub typed : IsTypedUnit (primitives_of program) u
-  pub first : HasFirst program u.functions
+  pub first : HasFirstFunction program u.functions
 
 -- a law: such a unit is typed exactly where no fault stands in it
 abbrev pub ProgramsAreFaultless : Type 0

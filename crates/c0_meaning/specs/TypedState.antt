@@ -8,7 +8,7 @@ use Rattle.c0_tree.specs.Tree.{CTy, CFunction, CUnit}
 use Rattle.c0_meaning.specs.Ty.{Ty, ty_of}
 use Rattle.c0_meaning.specs.Ty as ty
 use Rattle.c0_meaning.specs.Env.{Typed, Shape, typed_of, scalar_ty}
-use Rattle.c0_meaning.specs.Words.{fields_named}
+use Rattle.c0_meaning.specs.Words.{shape_fields}
 use Rattle.c0_meaning.specs.Limits.{locals_of}
 use Rattle.c0_meaning.specs.Sound.{shapes}
 use Rattle.c0_meaning.specs.Typed.{IsDeclarable}
@@ -30,7 +30,7 @@ types_of decls = map (λ d. d.ty) decls
 -- a path leads from a type to that of a part
 abbrev pub PathLeads : List Shape → Ty → List ℕ → Ty → Type 0
 PathLeads structs t [] u = t ≡ u
-PathLeads structs (ty.named x) (i ∷ path) u = (t : Ty) × (slice_get (types_of (fields_named structs x)) i ≡ Some t) × PathLeads structs t path u
+PathLeads structs (ty.named x) (i ∷ path) u = (t : Ty) × (slice_get (types_of (shape_fields structs x)) i ≡ Some t) × PathLeads structs t path u
 PathLeads structs (ty.array t n) (i ∷ path) u = (i < n) × PathLeads structs t path u
 PathLeads structs _ (i ∷ path) u = ⊥
 
@@ -52,7 +52,7 @@ abbrev mutual
   Fits structs layout ty.bool (bool b) = Unit {0}
   Fits structs layout (ty.pointer t) null = Unit {0}
   Fits structs layout (ty.pointer t) (at l) = PointsTo structs layout l.region l.path t
-  Fits structs layout (ty.named x) (group vs) = AllFit structs layout (types_of (fields_named structs x)) vs
+  Fits structs layout (ty.named x) (group vs) = AllFit structs layout (types_of (shape_fields structs x)) vs
   Fits structs layout (ty.array t n) (group vs) = AllFit structs layout (replicate n t) vs
   Fits structs layout _ _ = ⊥
 

@@ -13,8 +13,8 @@ is_made_of x (named y) = bytes_eq y x
 is_made_of x (array t n) = is_made_of x t
 
 -- the fields of the struct of a name: a struct that isn't defined has none
-abbrev pub fields_named : List Shape → List ℕ → List Typed
-fields_named structs x = fields_of (first_named (λ s. s.text) x 0 structs)
+abbrev pub shape_fields : List Shape → List ℕ → List Typed
+shape_fields structs x = fields_of (first_named (λ s. s.text) x 0 structs)
 
 -- whether one of these fields is, or is an array of, the struct of this name
 abbrev pub have_field : List Typed → List ℕ → Bool
@@ -23,7 +23,7 @@ have_field (d ∷ rest) x = is_made_of x d.ty || have_field rest x
 
 -- whether the struct of a name has a field that is, or is an array of, the struct of another
 abbrev pub has_field_of : List Shape → List ℕ → List ℕ → Bool
-has_field_of structs owner x = have_field (fields_named structs owner) x
+has_field_of structs owner x = have_field (shape_fields structs owner) x
 
 -- a struct holds another: by a field, or by a field that holds it
 pub data StructHolds (structs : List Shape) : List ℕ → List ℕ → Type 0 where
@@ -56,7 +56,7 @@ all_words_with struct_words (d ∷ rest) = words_with struct_words d.ty + all_wo
 -- the words of the struct of a name, where structs are opened so deep: those of its fields, and 0 for a struct that holds itself
 abbrev pub words_within : ℕ → List Shape → List ℕ → ℕ
 words_within zero structs x = 0
-words_within (suc depth) structs x = if holds structs x x then 0 else all_words_with (words_within depth structs) (fields_named structs x)
+words_within (suc depth) structs x = if holds structs x x then 0 else all_words_with (words_within depth structs) (shape_fields structs x)
 
 -- the words of the struct of a name: no struct that doesn't hold itself is deeper than there are structs
 unfoldable pub struct_words : List Shape → List ℕ → ℕ
@@ -79,5 +79,5 @@ HoldsAsTested = (structs : List Shape) (owner x : List ℕ) → IsTrue (holds st
 pub record WordsAreThose : Type 0 where
   pub scalar : (structs : List Shape) (t : Ty) → (words structs int ≡ 1) × (words structs bool ≡ 1) × (words structs (pointer t) ≡ 1)
   pub element : (structs : List Shape) (t : Ty) (n : ℕ) → words structs (array t n) ≡ n * words structs t
-  pub fields : (structs : List Shape) (x : List ℕ) → (StructHolds structs x x → ⊥) → words structs (named x) ≡ all_words structs (fields_named structs x)
+  pub fields : (structs : List Shape) (x : List ℕ) → (StructHolds structs x x → ⊥) → words structs (named x) ≡ all_words structs (shape_fields structs x)
   pub cycle : (structs : List Shape) (x : List ℕ) → StructHolds structs x x → words structs (named x) ≡ 0

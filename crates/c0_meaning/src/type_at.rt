@@ -14,7 +14,7 @@ ghost use Rattle.c0_meaning.specs.Sound.{shapes, IsSized, IsSizedFunction};
 ghost use Rattle.c0_meaning.specs.TypeAt as spec;
 ghost use Rattle.c0_meaning.specs.TypeAt.{IsAt, IsFoundResolved, declared_at, env_in};
 ghost use Rattle.c0_meaning.specs.Ty.{pointer};
-ghost use Rattle.c0_meaning.specs.Words.{fields_named};
+ghost use Rattle.c0_meaning.specs.Words.{shape_fields};
 
 use crate::form::Found;
 use crate::measured::Measured;
@@ -164,7 +164,7 @@ fn fields_of(owner: &StructDef) -> &[Decl]
 // The type of the field of a number in the struct of a resolved name.
 fn struct_field<'a>(unit: &Measured<'a>, name: &Name, number: u32) -> Found<'a>
     requires { IsResolved (shapes (unit_view unit.now)) (named (name_view name.now)) }
-    ensures gives { found_view result ≡ declared_at (fields_named (shapes (unit_view unit.now)) name.now.bytes.items) number }
+    ensures gives { found_view result ≡ declared_at (shape_fields (shapes (unit_view unit.now)) name.now.bytes.items) number }
     ensures declared { is_declared result ≡ true }
     ensures resolved { IsFoundResolved (shapes (unit_view unit.now)) result }
 {

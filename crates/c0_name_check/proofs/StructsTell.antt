@@ -12,7 +12,7 @@ use Rattle.c0_meaning.specs.Ty as ty
 use Rattle.c0_meaning.specs.Ty.{ty_of}
 use Rattle.c0_meaning.specs.Env.{Shape, first_named, fields_of}
 use Rattle.c0_meaning.specs.Fault.{fault, UNKNOWN_NAME, TYPE_TOO_LARGE, EMPTY_ARRAY}
-use Rattle.c0_meaning.specs.Words.{words, struct_words, all_words_with, fields_named, words_within, holds}
+use Rattle.c0_meaning.specs.Words.{words, struct_words, all_words_with, shape_fields, words_within, holds}
 use Rattle.c0_meaning.specs.DeclaredTypes.{MAX_TYPE_WORDS, fault_if, unknown_structs, has_empty_array, type_faults}
 use Rattle.c0_meaning.specs.Resolved.{looked_up, resolved_type}
 use Rattle.c0_name_check.specs.Names.{number_named}
@@ -52,7 +52,7 @@ undefined_within : (structs : List Shape) (text : List ℕ) (depth : ℕ) → fi
 undefined_within structs text zero h = refl
 undefined_within structs text (suc depth) h = by_test (holds structs text text)
   where
-    by_test : (b : Bool) → (if b then 0 else all_words_with (words_within depth structs) (fields_named structs text)) ≡ 0
+    by_test : (b : Bool) → (if b then 0 else all_words_with (words_within depth structs) (shape_fields structs text)) ≡ 0
     by_test true = refl
     by_test false = ap (λ o. all_words_with (words_within depth structs) (fields_of o)) h
 

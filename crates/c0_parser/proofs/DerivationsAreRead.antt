@@ -8,7 +8,7 @@ use Rattle.c0_parser.specs.Grammar.{Piece, ◌▸◌, ◌or◌, production, NAME
 use Rattle.c0_parser.specs.Machine.{picks, nullable, starts}
 use Rattle.c0_parser.proofs.TokensDecide.{apart, call_or_expr, good, all_good, and_left, and_right}
 use Rattle.c0_parser.proofs.DerivedIsRead.{Begins, begins, Stops, Follows, Reads, full, reads_one, reads_both, reads_first, reads_second, reads_left_out, reads_there, reads_made, follows_no_more, follows_one_more, not_of, picks_first, picks_second}
-use Rattle.c0_parser.proofs.Calls.{call_shape, picks_call, picks_expr}
+use Rattle.c0_parser.proofs.ParenthesisTells.{call_shape, picks_call, picks_expr}
 
 either_of : (a b : Bool) → (a || b) ≡ true → (a ≡ true) ⊎ (b ≡ true)
 either_of true b e = inl refl

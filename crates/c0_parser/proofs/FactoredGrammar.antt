@@ -2,7 +2,7 @@
 use Rattle.std.proofs.Common.{◌≡◌, List, [], ◌∷◌, ◌++◌, refl, sym, ap, ◌∙◌, subst, append_assoc}
 use Rattle.c0_tokens.specs.Tokens.{CToken}
 use Rattle.c0_tokens.specs.declared.token.Mark.TheVariants.{Struct}
-use Rattle.c0_parser.specs.Value.{SemanticValue, token, pair, none, snoc, type, decl_of, defined_at, item_value, base_value, type_suffixes, struct_in, global_in, function_in, structs, globals, functions}
+use Rattle.c0_parser.specs.Value.{SemanticValue, token, pair, none, snoc, type, decl_of, defined_at, item_value, base_value, type_suffixes, structs_of_value, globals_of_value, functions_of_value, structs, globals, functions}
 use Rattle.c0_parser.specs.Grammar.{type as type_rule, decl as decl_rule, Piece, sign, many, NAME, BASIC, SUFFIXES, ITEM, UNIT, Derives, taken, both, first, second, no_more, one_more, made}
 use Rattle.c0_parser.specs.Factored.{AFTER_DECL, FACTORED, SOURCE, declared_as, item_after_name, factored_value, factored_structs, factored_globals, factored_functions}
 
@@ -86,9 +86,9 @@ record OtherList (p : Piece) (xs : List CToken) (f : SemanticValue → Type 0) :
 
 one_more_same : (v w x y : SemanticValue) → SameItems v w → item_value x ≡ factored_value y → SameItems (snoc v x) (snoc w y)
 one_more_same v w x y s e = record {
-  same_structs = ap (λ l. l ++ struct_in (item_value x)) s.same_structs ∙ ap (λ z. factored_structs w ++ struct_in z) e;
-  same_globals = ap (λ l. l ++ global_in (item_value x)) s.same_globals ∙ ap (λ z. factored_globals w ++ global_in z) e;
-  same_functions = ap (λ l. l ++ function_in (item_value x)) s.same_functions ∙ ap (λ z. factored_functions w ++ function_in z) e;
+  same_structs = ap (λ l. l ++ structs_of_value (item_value x)) s.same_structs ∙ ap (λ z. factored_structs w ++ structs_of_value z) e;
+  same_globals = ap (λ l. l ++ globals_of_value (item_value x)) s.same_globals ∙ ap (λ z. factored_globals w ++ globals_of_value z) e;
+  same_functions = ap (λ l. l ++ functions_of_value (item_value x)) s.same_functions ∙ ap (λ z. factored_functions w ++ functions_of_value z) e;
 }
 
 items_to : {xs : List CToken} {v : SemanticValue} → Derives (many ITEM) xs v → OtherList (many FACTORED) xs (λ w. SameItems v w)

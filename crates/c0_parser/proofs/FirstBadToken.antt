@@ -14,7 +14,7 @@ use Rattle.c0_parser.proofs.ReadIsDerived.{back, Means}
 use Rattle.c0_parser.proofs.TokensDecide.{apart, apart_at, and_left, and_right, source_good}
 use Rattle.c0_parser.proofs.DerivedIsRead.{cond_false}
 use Rattle.c0_parser.proofs.DerivationsAreRead.{reads}
-use Rattle.c0_parser.proofs.Samples.{completes_one}
+use Rattle.c0_parser.proofs.EachPieceDerives.{completes_one}
 use Rattle.c0_parser.proofs.StuckWhateverFollows.{left_of, Stop, replay}
 
 -- whether a token ends a source: its end, or a token of no source

@@ -6,13 +6,13 @@ use Rattle.c0_tokens.specs.declared.token.Mark.TheVariants.{Semicolon}
 use Rattle.std.specs.Prelude.{true}
 use Rattle.c0_tree.specs.Tree.{CDecl, CStruct, CFunction, CUnit}
 use Rattle.c0_parser.specs.Sorts.{the_end, sort, among}
-use Rattle.c0_parser.specs.Value.{SemanticValue, token, pair, none, snoc, decl, body, a_function, defined, item_value, struct_in, global_in, function_in, structs, globals, functions, parsed_unit}
+use Rattle.c0_parser.specs.Value.{SemanticValue, token, pair, none, snoc, decl, body, a_function, defined, item_value, structs_of_value, globals_of_value, functions_of_value, structs, globals, functions, parsed_unit}
 use Rattle.c0_parser.specs.Grammar.{many, the, one_of, sign, ◌▸◌, ITEM, FUNCTION, UNIT, Derives, taken, both, first, second, no_more, one_more, made}
 use Rattle.c0_parser.specs.Grammar as grammar
 use Rattle.c0_parser.specs.Faults.{ReadsAs}
 use Rattle.c0_parser.specs.Items.{CItem, struct_item, global_item, function_item, item_piece, item_meaning, DeclareAll, no_items, one_more_item, IsMadeOf, structs_among, globals_among, functions_among, unit_with}
 use Rattle.c0_parser.proofs.TokensDecide.{no_yes}
-use Rattle.c0_parser.proofs.Shapes.{IsADecl, IsABody, means}
+use Rattle.c0_parser.proofs.ProductionsMean.{IsADecl, IsABody, means}
 
 -- what a piece of the grammar declares
 record Declared (ts : List CToken) (v : SemanticValue) : Type 0 where
@@ -64,17 +64,17 @@ functions_append (struct_item s ∷ is) js = functions_append is js
 functions_append (global_item d ∷ is) js = functions_append is js
 functions_append (function_item f ∷ is) js = ap (λ l. f ∷ l) (functions_append is js)
 
-struct_of_item : (i : CItem) → struct_in (item_meaning i) ≡ structs_among (i ∷ [])
+struct_of_item : (i : CItem) → structs_of_value (item_meaning i) ≡ structs_among (i ∷ [])
 struct_of_item (struct_item s) = refl
 struct_of_item (global_item d) = refl
 struct_of_item (function_item f) = refl
 
-global_of_item : (i : CItem) → global_in (item_meaning i) ≡ globals_among (i ∷ [])
+global_of_item : (i : CItem) → globals_of_value (item_meaning i) ≡ globals_among (i ∷ [])
 global_of_item (struct_item s) = refl
 global_of_item (global_item d) = refl
 global_of_item (function_item f) = refl
 
-function_of_item : (i : CItem) → function_in (item_meaning i) ≡ functions_among (i ∷ [])
+function_of_item : (i : CItem) → functions_of_value (item_meaning i) ≡ functions_among (i ∷ [])
 function_of_item (struct_item s) = refl
 function_of_item (global_item d) = refl
 function_of_item (function_item f) = refl
@@ -90,9 +90,9 @@ no_items_meant = record { same_structs = refl; same_globals = refl; same_functio
 
 more_items_meant : (v w : SemanticValue) (is : List CItem) (i : CItem) → MeansItems v is → item_value w ≡ item_meaning i → MeansItems (snoc v w) (is ++ i ∷ [])
 more_items_meant v w is i m e = record {
-  same_structs = ap (λ l. l ++ struct_in (item_value w)) m.same_structs ∙ ap (λ x. structs_among is ++ struct_in x) e ∙ ap (λ l. structs_among is ++ l) (struct_of_item i) ∙ sym (structs_append is (i ∷ []));
-  same_globals = ap (λ l. l ++ global_in (item_value w)) m.same_globals ∙ ap (λ x. globals_among is ++ global_in x) e ∙ ap (λ l. globals_among is ++ l) (global_of_item i) ∙ sym (globals_append is (i ∷ []));
-  same_functions = ap (λ l. l ++ function_in (item_value w)) m.same_functions ∙ ap (λ x. functions_among is ++ function_in x) e ∙ ap (λ l. functions_among is ++ l) (function_of_item i) ∙ sym (functions_append is (i ∷ []));
+  same_structs = ap (λ l. l ++ structs_of_value (item_value w)) m.same_structs ∙ ap (λ x. structs_among is ++ structs_of_value x) e ∙ ap (λ l. structs_among is ++ l) (struct_of_item i) ∙ sym (structs_append is (i ∷ []));
+  same_globals = ap (λ l. l ++ globals_of_value (item_value w)) m.same_globals ∙ ap (λ x. globals_among is ++ globals_of_value x) e ∙ ap (λ l. globals_among is ++ l) (global_of_item i) ∙ sym (globals_append is (i ∷ []));
+  same_functions = ap (λ l. l ++ functions_of_value (item_value w)) m.same_functions ∙ ap (λ x. functions_among is ++ functions_of_value x) e ∙ ap (λ l. functions_among is ++ l) (function_of_item i) ∙ sym (functions_append is (i ∷ []));
 }
 
 abbrev unit : ℕ → List CStruct → List CDecl → List CFunction → CUnit

@@ -9,7 +9,7 @@ use Rattle.c0_parser.specs.Answer.{IsTreeAnswer}
 use Rattle.c0_parser.specs.Faults.{ReadsAs, FaultIs, IsPrefix, IsFirstBad, fault_at}
 use Rattle.c0_parser.specs.declared.fault.ReadFault.{ReadFault}
 use Rattle.c0_parser.specs.declared.fault.ReadFault.TheVariants.{BadByte, BadNumber, Unexpected, TooNested, SourceTooLong, Memory}
-use Rattle.c0_parser.proofs.Sources.{one_tree}
+use Rattle.c0_parser.proofs.SourcesRead.{one_tree}
 
 -- the beginning of a beginning of a unit is one
 begins_too : (xs ys : List CToken) → IsPrefix (xs ++ ys) → IsPrefix xs

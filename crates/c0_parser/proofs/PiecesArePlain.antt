@@ -10,7 +10,7 @@ use Rattle.c0_tree.specs.declared.tree.Span.{Span}
 use Rattle.c0_tree.specs.Tree.{CExpr, CName, CStmt, CDecl, CStruct, CFunction}
 use Rattle.c0_tree.specs.View.{stmts_of}
 use Rattle.c0_tree.specs.Plain.{is_plain_expr, is_nonempty, is_short, is_plain_struct, stmts_length, is_plain_stmt, are_plain_stmts, is_plain_body, is_plain}
-use Rattle.c0_parser.specs.Value.{SemanticValue, token, pair, none, snoc, expr, type, decl, stmt, block, body, a_struct, a_global, a_function, lexeme_text, literal, primary_value, part_of, suffixed, suffixes, postfix_value, prefixed, unary_value, joined, chained, chain_value, base_value, type_suffixed, type_suffixes, type_value, decl_of, decl_value, decls_in, decls, decls_from, exprs_in, exprs, args_of, stmts_in, stmts, block_value, stored, choice_value, statement_value, code_value, body_value, parsed_params, defined, struct_of, item_value, struct_in, global_in, function_in, structs, globals, functions, parsed_unit}
+use Rattle.c0_parser.specs.Value.{SemanticValue, token, pair, none, snoc, expr, type, decl, stmt, block, body, a_struct, a_global, a_function, lexeme_text, literal, primary_value, part_of, suffixed, suffixes, postfix_value, prefixed, unary_value, joined, chained, chain_value, base_value, type_suffixed, type_suffixes, type_value, decl_of, decl_value, decls_in, decls, decls_from, exprs_in, exprs, args_of, stmts_in, stmts, block_value, stored, choice_value, statement_value, code_value, body_value, parsed_params, defined, struct_of, item_value, structs_of_value, globals_of_value, functions_of_value, structs, globals, functions, parsed_unit}
 use Rattle.c0_parser.proofs.PlainTexts.{TextFits}
 
 -- a token's number is small, and its text is no longer than a source
@@ -275,28 +275,28 @@ item_plain (pair (token t) (pair (token x) v)) h = struct_plain x v h.1.1
 item_plain (pair (decl d) v) h = defined_plain d v h.1
 item_plain _ h = tt
 
-struct_passes : (v : SemanticValue) → Plain v → Passes has_few_fields 1 (struct_in v)
+struct_passes : (v : SemanticValue) → Plain v → Passes has_few_fields 1 (structs_of_value v)
 struct_passes (a_struct s) h = only has_few_fields s h
 struct_passes _ h = nothing has_few_fields 1
 
 structs_pass : (v : SemanticValue) → Plain v → Passes has_few_fields (parts v) (structs v)
-structs_pass (snoc l x) h = passes_append has_few_fields (parts l) 1 (structs l) (struct_in (item_value x)) (structs_pass l h.1) (struct_passes (item_value x) (item_plain x h.2))
+structs_pass (snoc l x) h = passes_append has_few_fields (parts l) 1 (structs l) (structs_of_value (item_value x)) (structs_pass l h.1) (struct_passes (item_value x) (item_plain x h.2))
 structs_pass _ h = nothing has_few_fields 0
 
-global_passes : (v : SemanticValue) → Passes any 1 (global_in v)
+global_passes : (v : SemanticValue) → Passes any 1 (globals_of_value v)
 global_passes (a_global d) = only any d refl
 global_passes _ = nothing any 1
 
 globals_pass : (v : SemanticValue) → Plain v → Passes any (parts v) (globals v)
-globals_pass (snoc l x) h = passes_append any (parts l) 1 (globals l) (global_in (item_value x)) (globals_pass l h.1) (global_passes (item_value x))
+globals_pass (snoc l x) h = passes_append any (parts l) 1 (globals l) (globals_of_value (item_value x)) (globals_pass l h.1) (global_passes (item_value x))
 globals_pass _ h = nothing any 0
 
-function_passes : (v : SemanticValue) → Plain v → Passes is_plain_function 1 (function_in v)
+function_passes : (v : SemanticValue) → Plain v → Passes is_plain_function 1 (functions_of_value v)
 function_passes (a_function f) h = only is_plain_function f h
 function_passes _ h = nothing is_plain_function 1
 
 functions_pass : (v : SemanticValue) → Plain v → Passes is_plain_function (parts v) (functions v)
-functions_pass (snoc l x) h = passes_append is_plain_function (parts l) 1 (functions l) (function_in (item_value x)) (functions_pass l h.1) (function_passes (item_value x) (item_plain x h.2))
+functions_pass (snoc l x) h = passes_append is_plain_function (parts l) 1 (functions l) (functions_of_value (item_value x)) (functions_pass l h.1) (function_passes (item_value x) (item_plain x h.2))
 functions_pass _ h = nothing is_plain_function 0
 
 -- structs that have a field each, and few

@@ -5,7 +5,7 @@ use Rattle.std.proofs.lemmas.Bool.{and_from}
 use Rattle.c0_tokens.specs.Tokens.{CToken}
 use Rattle.c0_tree.specs.Tree.{CDecl, CStruct}
 use Rattle.c0_tree.specs.Plain.{is_nonempty}
-use Rattle.c0_parser.specs.Value.{SemanticValue, token, pair, type, decl, body, base_value, type_suffixed, type_suffixes, decl_of, decls_from, defined, item_value, struct_in, structs}
+use Rattle.c0_parser.specs.Value.{SemanticValue, token, pair, type, decl, body, base_value, type_suffixed, type_suffixes, decl_of, decls_from, defined, item_value, structs_of_value, structs}
 use Rattle.c0_parser.specs.Grammar.{BASE, SUFFIX, SUFFIXES, ITEM, many, the, Derives, taken, both, first, second, no_more, one_more, made}
 use Rattle.c0_parser.specs.Grammar as grammar
 use Rattle.c0_parser.proofs.PiecesArePlain.{all_append}
@@ -50,16 +50,16 @@ line_is_part : (a : SemanticValue) (end : CToken) (rest : SemanticValue) → IsA
 line_is_part (decl d) end rest h = refl
 line_is_part _ end rest h = absurd h
 
-no_struct_defined : (d : CDecl) (v : SemanticValue) → struct_in (defined d v) ≡ []
+no_struct_defined : (d : CDecl) (v : SemanticValue) → structs_of_value (defined d v) ≡ []
 no_struct_defined d (token semicolon) = refl
 no_struct_defined d (pair (token opening) (pair ps (pair (token closing) (body b)))) = refl
 no_struct_defined d _ = refl
 
-no_struct : (a v : SemanticValue) → IsADecl a → struct_in (item_value (pair a v)) ≡ []
+no_struct : (a v : SemanticValue) → IsADecl a → structs_of_value (item_value (pair a v)) ≡ []
 no_struct (decl d) v h = no_struct_defined d v
 no_struct _ v h = absurd h
 
-item_has_field : {xs : List CToken} {v : SemanticValue} → Derives ITEM xs v → list_all has_field (struct_in (item_value v)) ≡ true
+item_has_field : {xs : List CToken} {v : SemanticValue} → Derives ITEM xs v → list_all has_field (structs_of_value (item_value v)) ≡ true
 item_has_field (first (both (taken s ss t h) (both (taken r rr x k) (both (taken q qq opening l) (both (both {w = rest} (both {v = line} d (taken p pp end m)) e) (both (taken o oo closing n) (taken c ks semicolon b))))))) =
     and_from (is_nonempty (decls_from (pair (pair line (token end)) rest))) true (line_is_part line end rest (decl_is d)) refl
 item_has_field (second (both {v = a} {w = v} d e)) = ap (list_all has_field) (no_struct a v (decl_is d))
@@ -67,4 +67,4 @@ item_has_field (second (both {v = a} {w = v} d e)) = ap (list_all has_field) (no
 -- each struct of a list of items has a field
 pub structs_have_fields : {xs : List CToken} {l : SemanticValue} → Derives (many ITEM) xs l → list_all has_field (structs l) ≡ true
 structs_have_fields no_more = refl
-structs_have_fields (one_more {v = l} {w = x} d e) = all_append has_field (structs l) (struct_in (item_value x)) (structs_have_fields d) (item_has_field e)
+structs_have_fields (one_more {v = l} {w = x} d e) = all_append has_field (structs l) (structs_of_value (item_value x)) (structs_have_fields d) (item_has_field e)

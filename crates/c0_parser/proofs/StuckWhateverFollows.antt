@@ -12,7 +12,7 @@ use Rattle.c0_parser.proofs.MachineRuns.{onward, steps}
 use Rattle.c0_parser.proofs.ReadIsDerived.{back}
 use Rattle.c0_parser.proofs.TokensDecide.{apart, apart_at, call_or_expr, good, all_good, and_left, and_right, is_name, or_false}
 use Rattle.c0_parser.proofs.DerivedIsRead.{cond_true, cond_false}
-use Rattle.c0_parser.proofs.Calls.{call_shape}
+use Rattle.c0_parser.proofs.ParenthesisTells.{call_shape}
 use Rattle.c0_parser.proofs.PieceSteps.{then_stuck}
 
 abbrev pub left_of : ParserState → List CToken

@@ -4,7 +4,7 @@ use Rattle.c0_tokens.specs.Tokens.{CToken}
 use Rattle.c0_tokens.specs.declared.token.Mark.TheVariants.{Struct, Semicolon}
 use Rattle.c0_tree.specs.Tree.{CDecl, CStruct, CFunction}
 use Rattle.c0_parser.specs.Sorts.{the_end}
-use Rattle.c0_parser.specs.Value.{SemanticValue, token, pair, none, snoc, base_value, type_suffixes, decl_of, defined_at, struct_of, struct_in, global_in, function_in}
+use Rattle.c0_parser.specs.Value.{SemanticValue, token, pair, none, snoc, base_value, type_suffixes, decl_of, defined_at, struct_of, structs_of_value, globals_of_value, functions_of_value}
 use Rattle.c0_parser.specs.Grammar.{Piece, one_of, sign, ◌▸◌, ◌or◌, many, NAME, BASIC, SUFFIXES, FIELDS, FUNCTION}
 
 -- what stands after the declaration of a global or a function
@@ -39,13 +39,13 @@ factored_value (pair (token t) v) = declared_as (base_value (token t)) v
 factored_value _ = none
 
 abbrev pub factored_structs : SemanticValue → List CStruct
-factored_structs (snoc l x) = factored_structs l ++ struct_in (factored_value x)
+factored_structs (snoc l x) = factored_structs l ++ structs_of_value (factored_value x)
 factored_structs _ = []
 
 abbrev pub factored_globals : SemanticValue → List CDecl
-factored_globals (snoc l x) = factored_globals l ++ global_in (factored_value x)
+factored_globals (snoc l x) = factored_globals l ++ globals_of_value (factored_value x)
 factored_globals _ = []
 
 abbrev pub factored_functions : SemanticValue → List CFunction
-factored_functions (snoc l x) = factored_functions l ++ function_in (factored_value x)
+factored_functions (snoc l x) = factored_functions l ++ functions_of_value (factored_value x)
 factored_functions _ = []

@@ -48,8 +48,8 @@ abbrev pub ELEMENT : Piece
 ELEMENT = sign OpenBracket ▸ EXPR ▸ sign CloseBracket
 
 -- what may stand behind a primary
-abbrev pub SUFFIX : Piece
-SUFFIX = FIELD or ELEMENT
+abbrev pub PRIMARY_SUFFIX : Piece
+PRIMARY_SUFFIX = FIELD or ELEMENT
 
 -- the first token is none of these marks, or is one of them
 abbrev pub TakesAny : List Mark → List Token → Option (Token × Bor (List Token)) → Type 0

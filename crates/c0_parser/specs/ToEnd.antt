@@ -3,7 +3,7 @@ use Rattle.std.specs.Prelude.{◌≡◌, ◌++◌, List, map, Result, Ok, Err}
 use Rattle.c0_tokens.specs.Tokens.{CToken}
 use Rattle.c0_tokens.specs.declared.token.Token.{Token}
 use Rattle.c0_tree.specs.View.{struct_view, decl_view, function_view}
-use Rattle.c0_parser.specs.Value.{SemanticValue, pair, struct_in, global_in, function_in}
+use Rattle.c0_parser.specs.Value.{SemanticValue, pair, structs_of_value, globals_of_value, functions_of_value}
 use Rattle.c0_parser.specs.Factored.{SOURCE, factored_structs, factored_globals, factored_functions}
 use Rattle.c0_parser.specs.Contract.{as_seen, PieceReads, PieceFails}
 use Rattle.c0_parser.specs.Views.{item_view}
@@ -19,9 +19,9 @@ pub record AreItems (i : Items) (v : SemanticValue) : Type 0 where
 
 -- one more item
 pub record IsAdded (before : Items) (item : Item) (i : Items) : Type 0 where
-  pub more_structs : map struct_view i.structs.items ≡ map struct_view before.structs.items ++ struct_in (item_view item)
-  pub more_globals : map decl_view i.globals.items ≡ map decl_view before.globals.items ++ global_in (item_view item)
-  pub more_functions : map function_view i.functions.items ≡ map function_view before.functions.items ++ function_in (item_view item)
+  pub more_structs : map struct_view i.structs.items ≡ map struct_view before.structs.items ++ structs_of_value (item_view item)
+  pub more_globals : map decl_view i.globals.items ≡ map decl_view before.globals.items ++ globals_of_value (item_view item)
+  pub more_functions : map function_view i.functions.items ≡ map function_view before.functions.items ++ functions_of_value (item_view item)
 
 -- a source is read to its end
 pub record ReadsToEnd (ts : List Token) (i : Items) : Type 0 where

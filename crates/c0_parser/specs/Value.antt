@@ -269,29 +269,29 @@ item_value (pair (token t) (pair (token x) v)) = struct_of x v
 item_value (pair (decl d) v) = defined d v
 item_value _ = none
 
-abbrev pub struct_in : SemanticValue → List CStruct
-struct_in (a_struct s) = s ∷ []
-struct_in _ = []
+abbrev pub structs_of_value : SemanticValue → List CStruct
+structs_of_value (a_struct s) = s ∷ []
+structs_of_value _ = []
 
-abbrev pub global_in : SemanticValue → List CDecl
-global_in (a_global d) = d ∷ []
-global_in _ = []
+abbrev pub globals_of_value : SemanticValue → List CDecl
+globals_of_value (a_global d) = d ∷ []
+globals_of_value _ = []
 
-abbrev pub function_in : SemanticValue → List CFunction
-function_in (a_function f) = f ∷ []
-function_in _ = []
+abbrev pub functions_of_value : SemanticValue → List CFunction
+functions_of_value (a_function f) = f ∷ []
+functions_of_value _ = []
 
 -- the structs, the globals and the functions of a list, each in the order of the source
 abbrev pub structs : SemanticValue → List CStruct
-structs (snoc l x) = structs l ++ struct_in (item_value x)
+structs (snoc l x) = structs l ++ structs_of_value (item_value x)
 structs _ = []
 
 abbrev pub globals : SemanticValue → List CDecl
-globals (snoc l x) = globals l ++ global_in (item_value x)
+globals (snoc l x) = globals l ++ globals_of_value (item_value x)
 globals _ = []
 
 abbrev pub functions : SemanticValue → List CFunction
-functions (snoc l x) = functions l ++ function_in (item_value x)
+functions (snoc l x) = functions l ++ functions_of_value (item_value x)
 functions _ = []
 
 -- the tree of a source of so many bytes

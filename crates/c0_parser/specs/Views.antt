@@ -43,8 +43,8 @@ AreArgs es v = args_of v ≡ map expr_view es.items
 abbrev pub typed : Typed → SemanticValue
 typed t = type t.span (type_view t.ty)
 
-abbrev pub IsTyped : Typed → SemanticValue → Type 0
-IsTyped t v = v ≡ typed t
+abbrev pub IsTypedValue : Typed → SemanticValue → Type 0
+IsTypedValue t v = v ≡ typed t
 
 -- the first word or words of a type
 abbrev pub IsBase : Typed → SemanticValue → Type 0

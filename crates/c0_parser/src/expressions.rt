@@ -11,7 +11,7 @@ ghost use Rattle.c0_parser.specs.Machine.{heads};
 ghost use Rattle.c0_parser.specs.Contract.{as_seen, PieceGives, GivesAny};
 ghost use Rattle.c0_parser.specs.Views.{IsPart};
 ghost use Rattle.c0_parser.specs.Levels.{rule_of, operand_of, marks_of, operation, chains, level_place};
-ghost use Rattle.c0_parser.specs.Tails.{enclosed, part_value, GivesLiteral, IsFieldOf, IsNameOf, TakesAny, FIELD, SUFFIX};
+ghost use Rattle.c0_parser.specs.Tails.{enclosed, part_value, GivesLiteral, IsFieldOf, IsNameOf, TakesAny, FIELD, PRIMARY_SUFFIX};
 ghost use Rattle.c0_parser.specs.declared.reader.Halt.TheVariants.{Memory};
 ghost use Rattle.c0_tree.specs.View.{expr_view};
 
@@ -260,7 +260,7 @@ fn literal<'a>(alloc: Global, ts: &'a [Token<'a>]) -> Result<(Part, &'a [Token<'
 
 // Whether a field or an element of what was read follows.
 fn begins_suffix<'a>(ts: &'a [Token<'a>]) -> bool
-    ensures { result ≡ heads SUFFIX (as_seen ts.now) }
+    ensures { result ≡ heads PRIMARY_SUFFIX (as_seen ts.now) }
 {
     take_any(ts, &[Mark::Dot, Mark::Arrow, Mark::OpenBracket]).is_some()
 }
@@ -304,8 +304,8 @@ fn suffix<'a>(
     left: Part,
     ts: &'a [Token<'a>],
 ) -> Result<(Part, &'a [Token<'a>]), Halt>
-    requires { heads SUFFIX (as_seen ts.now) ≡ true }
-    ensures { PieceGives SUFFIX (λ p x. IsPart p (suffixed (part_value left) x)) ts.now result }
+    requires { heads PRIMARY_SUFFIX (as_seen ts.now) ≡ true }
+    ensures { PieceGives PRIMARY_SUFFIX (λ p x. IsPart p (suffixed (part_value left) x)) ts.now result }
 {
     match take(ts, Mark::OpenBracket) {
         Some((opening, rest)) => {

@@ -10,7 +10,7 @@ ghost use Rattle.c0_tokens.specs.declared.token.Mark.TheVariants.{Comma};
 ghost use Rattle.c0_parser.specs.Grammar.{the, type, decl, sign, ◌▸◌, many, maybe, LINE, BASIC, BASE, SUFFIX, SUFFIXES};
 ghost use Rattle.c0_parser.specs.Contract.{as_seen, PieceGives, GivesAny, PieceReading};
 ghost use Rattle.c0_parser.specs.Machine.{heads};
-ghost use Rattle.c0_parser.specs.Views.{typed, IsBase, IsBasic, IsListed, AreMoreLines, IsExtended, lengthened, IsSuffix, IsTyped, AreSuffixes, IsDecl};
+ghost use Rattle.c0_parser.specs.Views.{typed, IsBase, IsBasic, IsListed, AreMoreLines, IsExtended, lengthened, IsSuffix, IsTypedValue, AreSuffixes, IsDecl};
 ghost use Rattle.c0_parser.specs.Views.{AreLines, AreFields, AreParams};
 
 use crate::reader::{Halt, expect, name, next, number_here, read_so_far, take};
@@ -178,7 +178,7 @@ fn base<'a>(alloc: Global, ts: &'a [Token<'a>]) -> Result<(Typed, &'a [Token<'a>
 
 /// A type.
 pub fn type_of<'a>(alloc: Global, ts: &'a [Token<'a>]) -> Result<(Typed, &'a [Token<'a>]), Halt>
-    ensures { PieceGives (the type) IsTyped ts.now result }
+    ensures { PieceGives (the type) IsTypedValue ts.now result }
 {
     let (base, rest) = base(alloc, ts)?;
     suffixes(alloc, base, rest)

@@ -9,7 +9,7 @@ use Rattle.c0_runtime.specs.Code.{startup_code, behind_first}
 use Rattle.layer_map.specs.declared.entries.TheConstants.{LEAVE}
 use Rattle.c0_runtime.specs.Laws.{RoutineReturns, StackIs, IsEntered, with_half, EntryRuns}
 use Rattle.c0_runtime.proofs.RoutineSteps.{moved, put_other}
-use Rattle.c0_runtime.proofs.Numbers.{halves}
+use Rattle.c0_runtime.proofs.HiAndLoAnswer.{halves}
 
 -- the contents behind the entry
 abbrev ready : (globals first stack : ℕ) → Contents → Contents

@@ -1,6 +1,6 @@
 mod RoutineSteps
 mod ClearingLoop
-mod Objects
-mod Numbers
-mod Arithmetic
+mod NewRoutineEnds
+mod HiAndLoAnswer
+mod RoutinesCompute
 mod KernelEntry

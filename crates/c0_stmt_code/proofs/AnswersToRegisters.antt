@@ -11,7 +11,7 @@ use Rattle.c0_tree.specs.Tree.{CExpr, CStmts, CFunction}
 use Rattle.c0_meaning.specs.Ty.{Ty, named}
 use Rattle.c0_meaning.specs.Ty as ty
 use Rattle.c0_meaning.specs.Env.{typed_of}
-use Rattle.c0_meaning.specs.Words.{fields_named, words}
+use Rattle.c0_meaning.specs.Words.{shape_fields, words}
 use Rattle.c0_meaning.specs.Sound.{shapes}
 use Rattle.c0_meaning.specs.Value.{Region, globals, heap, locals, Value, int, bool, null, at, group}
 use Rattle.c0_meaning.specs.State.{Frame}
@@ -24,21 +24,21 @@ use Rattle.c0_expr_code.specs.Bases.{words_of_all, location_word}
 use Rattle.c0_stmt_code.specs.Code.{answer_code, stored_code}
 use Rattle.c0_stmt_code.specs.Setup.{Setup}
 use Rattle.c0_stmt_code.specs.Ahead.{Activation, body_env, HasAnswerPlace, Block, Ahead}
-use Rattle.c0_stmt_code.specs.Standing.{text, scope, bases, end_of, unit_scope, word_of_value, Waiting, FunctionRuns, ConfigurationStands}
-use Rattle.c0_stmt_code.proofs.Premises.{HeldStays, TypedStays, LengthsFit}
+use Rattle.c0_stmt_code.specs.Standing.{code_text, scope, bases, end_of, unit_scope, word_of_value, Waiting, FunctionRuns, ConfigurationStands}
+use Rattle.c0_stmt_code.proofs.PremisesFromBelow.{HeldStays, TypedStays, LengthsFit}
 use Rattle.c0_stmt_code.proofs.LowerLaws.{room_from}
 use Rattle.c0_stmt_code.proofs.ValuesStay.{word_same}
 use Rattle.c0_stmt_code.proofs.RunStretches.{away}
-use Rattle.c0_stmt_code.proofs.Rooms.{words_by_types}
+use Rattle.c0_stmt_code.proofs.RegionsApart.{words_by_types}
 use Rattle.c0_stmt_code.proofs.MemoryAccess.{same_reg, other_reg}
 use Rattle.c0_stmt_code.proofs.FunctionsUnderWay.{rest_of, standing_at, Exprs}
-use Rattle.c0_stmt_code.proofs.Locals.{IsVariable, its_place, stores_light}
-use Rattle.c0_stmt_code.proofs.Liveness.{AreLiveAtPlace}
+use Rattle.c0_stmt_code.proofs.RegisterAssigned.{IsVariable, its_place, stores_light}
+use Rattle.c0_stmt_code.proofs.LiveAroundSteps.{AreLiveAtPlace}
 use Rattle.c0_stmt_code.proofs.StepSimulation.{GoesOn}
 
 module _ (runs : RunLaws) (compose : RunsCompose) (W E : Type 0) (Outer : W → Contents → Behind → Type 0) (z : Setup W E Outer) (jumps : JumpsLead z.w) (straight : StraightRuns z.w)
     (held : HeldStays (shapes z.p.unit)) (typing : TypedStays z.p.unit) (exprs : Exprs W E Outer z) (fit : (f : CFunction) → LengthsFit (scope W E Outer z f))
-    (opened : (x : List ℕ) → words (shapes z.p.unit) (named x) ≡ words_of_all (shapes z.p.unit) (types_of (fields_named (shapes z.p.unit) x)))
+    (opened : (x : List ℕ) → words (shapes z.p.unit) (named x) ≡ words_of_all (shapes z.p.unit) (types_of (shape_fields (shapes z.p.unit) x)))
     (objects : List Ty) (gv hv : Value) (hw : ℕ) (g : Frame) (fs : List Frame) (world : W) (calls : List (List E)) (answer : Option Value) (c : Contents) (d : Behind) (a : Activation) (others : List Activation)
     (st : ConfigurationStands W E Outer z objects (standing_at gv hv hw (g ∷ fs) world calls answer) c d) (r : FunctionRuns W E Outer z objects c a g fs) (waits : Waiting W E Outer z objects c.memory others fs)
     (k debt : ℕ) (rest : CStmts) (work : List Work) where
@@ -79,8 +79,8 @@ module _ (runs : RunLaws) (compose : RunsCompose) (W E : Type 0) (Outer : W → 
   is_word (ty.array t n) (group vs) f = omega arith
   is_word _ _ f = absurd f
 
-  pub finishes_light : (place : CExpr) (v : Value) (t : Ty) (x : ℕ) → Fits (shapes z.p.unit) (store_typing z.p.unit objects) t v → c.regs 2 ≡ word_of_value W E Outer z objects v → IsVariable (body_env (text W E Outer z) a.function) sc place x t → (made sc place).stands ≡ Some x
-      → HasAnswerPlace (text W E Outer z) a.function place t → CodeAt z.w k (answer_code sc place) → Block (text W E Outer z) a.function (k + length (answer_code sc place)) debt rest (λ to left. Ahead (text W E Outer z) (a ∷ others) to left work)
+  pub finishes_light : (place : CExpr) (v : Value) (t : Ty) (x : ℕ) → Fits (shapes z.p.unit) (store_typing z.p.unit objects) t v → c.regs 2 ≡ word_of_value W E Outer z objects v → IsVariable (body_env (code_text W E Outer z) a.function) sc place x t → (made sc place).stands ≡ Some x
+      → HasAnswerPlace (code_text W E Outer z) a.function place t → CodeAt z.w k (answer_code sc place) → Block (code_text W E Outer z) a.function (k + length (answer_code sc place)) debt rest (λ to left. Ahead (code_text W E Outer z) (a ∷ others) to left work)
       → AreLiveAtPlace a.live others place rest work → GoesOn W E Outer z debt here (at_with k c d) (store (units 0) place v rest work here)
   finishes_light place v t x fits is y stands answered code block live =
       let at = (its_place runs compose W E Outer z jumps straight held typing exprs fit objects gv hv hw g fs world calls answer c d a others st r waits k debt rest work place t x y).at in
@@ -96,4 +96,4 @@ module _ (runs : RunLaws) (compose : RunsCompose) (W E : Type 0) (Outer : W → 
       let len : k + length (answer_code sc place) ≡ k + 1 = ap (λ is. k + length is) same in
       stores_light runs compose W E Outer z jumps straight held typing exprs fit objects gv hv hw g fs world calls answer c d a others st r waits k debt rest work place t x v 1 1 (k + 1) (units 0) (at_with k c d) (with_reg c x (c.regs 2)) y answered.left.scalar fits
       (record { is = same_reg c.regs x (c.regs 2) nz ∙ is ∙ sym canonical; above = λ q le ne. other_reg c.regs x (c.regs 2) q ne; memory = refl; special = refl })
-      go (omega arith) (omega arith) (subst (λ m. Block (text W E Outer z) a.function m debt rest (λ to left. Ahead (text W E Outer z) (a ∷ others) to left work)) len block) live
+      go (omega arith) (omega arith) (subst (λ m. Block (code_text W E Outer z) a.function m debt rest (λ to left. Ahead (code_text W E Outer z) (a ∷ others) to left work)) len block) live

@@ -28,18 +28,18 @@ use Rattle.c0_stmt_code.specs.Code.{calls_in, args_code, answer_code}
 use Rattle.c0_stmt_code.specs.Setup.{Setup}
 use Rattle.c0_stmt_code.specs.Ahead.{Activation, body_env, Block, Awaits, Ahead, AnswerIsLive, WaitingAreLive}
 use Rattle.c0_stmt_code.specs.Live.{any_reads, live_at_place}
-use Rattle.c0_stmt_code.specs.Standing.{text, scope, bases, end_of, unit_scope, AreIn, Waiting, FunctionRuns, ConfigurationStands}
-use Rattle.c0_stmt_code.proofs.Premises.{HeldStays, TypedStays, FunctionsAre}
+use Rattle.c0_stmt_code.specs.Standing.{code_text, scope, bases, end_of, unit_scope, AreIn, Waiting, FunctionRuns, ConfigurationStands}
+use Rattle.c0_stmt_code.proofs.PremisesFromBelow.{HeldStays, TypedStays, FunctionsAre}
 use Rattle.c0_stmt_code.proofs.RunStretches.{none, on, of, within}
-use Rattle.c0_stmt_code.proofs.Blocks.{front, back, or_left, or_right}
-use Rattle.c0_stmt_code.proofs.Liveness.{AreLiveBefore}
-use Rattle.c0_stmt_code.proofs.Costs.{Within, values_within}
+use Rattle.c0_stmt_code.proofs.WorkAsCode.{front, back, or_left, or_right}
+use Rattle.c0_stmt_code.proofs.LiveAroundSteps.{AreLiveBefore}
+use Rattle.c0_stmt_code.proofs.UnitsWithinNodes.{Within, values_within}
 use Rattle.c0_stmt_code.proofs.ValuesStay.{word_same}
 use Rattle.c0_stmt_code.proofs.FunctionsUnderWay.{rest_of, state_of, standing_at, Exprs}
 use Rattle.c0_stmt_code.proofs.MemoryAccess.{other_reg, same_reg}
-use Rattle.c0_stmt_code.proofs.Rooms.{variables_same}
+use Rattle.c0_stmt_code.proofs.RegionsApart.{variables_same}
 use Rattle.c0_stmt_code.proofs.ValuesToPlaces.{its_exprs, its_ready}
-use Rattle.c0_stmt_code.proofs.Args.{SoftComes, InRegisters, args_run}
+use Rattle.c0_stmt_code.proofs.ArgumentsToRegisters.{SoftComes, InRegisters, args_run}
 use Rattle.c0_stmt_code.proofs.StepSimulation.{GoesOn, Path, stands_on}
 
 -- words of registers that stay
@@ -127,9 +127,9 @@ module _ (runs : RunLaws) (compose : RunsCompose) (W E : Type 0) (Outer : W → 
     abbrev Enters : ℕ → CFunction → Target → List Work → Type 0
     Enters n f target work = (c' : Contents) (vs : Values) (l m : ℕ) (cost : Cost) → ConfigurationStands W E Outer z objects here c' d → Waiting W E Outer z objects c'.memory (a ∷ others) (g ∷ fs) → c'.regs 29 ≡ 4 * end_of W E Outer z (g ∷ fs)
         → (to : ℕ) → c'.regs 31 ≡ 4 * to → AllFit (shapes z.p.unit) (store_typing z.p.unit objects) (types_of (map typed_of f.params)) vs → AreIn (unit_scope z.p.unit) (bases W E Outer z objects []) c'.regs 20 vs
-        → Awaits (text W E Outer z) (a ∷ others) to debt (ty_of f.answer) target work (λ acts at left. Ahead (text W E Outer z) acts at left work)
+        → Awaits (code_text W E Outer z) (a ∷ others) to debt (ty_of f.answer) target work (λ acts at left. Ahead (code_text W E Outer z) acts at left work)
         → AnswerIsLive (a ∷ others) target work (λ below. WaitingAreLive below work)
-        → Path runs compose W E Outer z jumps l m (at_with k c d) (at_with ((text W E Outer z).links.function n) c' d) → cost.own + 9 ≤ 2048 * (l + 1) → m ≤ 30 * cost.own → length calls ≡ calls_ended here
+        → Path runs compose W E Outer z jumps l m (at_with k c d) (at_with ((code_text W E Outer z).links.function n) c' d) → cost.own + 9 ≤ 2048 * (l + 1) → m ≤ 30 * cost.own → length calls ≡ calls_ended here
         → GoesOn W E Outer z debt here (at_with k c d) (call_function z.p cost n vs target work here)
 
     -- words of values for every function
@@ -142,20 +142,20 @@ module _ (runs : RunLaws) (compose : RunsCompose) (W E : Type 0) (Outer : W → 
 
     -- a call of a function
     pub calls_function : (n : ℕ) (f : CFunction) (args : List CExpr) (p : CExpr) (rest : CStmts) (work : List Work) → slice_get z.p.unit.functions n ≡ Some f → Enters n f (into p rest) work
-        → AreNumberedGiven (body_env (text W E Outer z) a.function) args (types_of (map typed_of f.params)) → length args ≤ 8 → length (types_of (map typed_of f.params)) ≤ 8 → IsNumberedLeft (body_env (text W E Outer z) a.function) p (ty_of f.answer) → call_need p args ≤ MAX_NEED → nodes p + args_nodes args + 1 ≤ 2000
-        → CodeAt z.w k (args_code sc args 0 ++ (Jal ((text W E Outer z).links.function n) ∷ answer_code sc p))
-        → Block (text W E Outer z) a.function (k + length (args_code sc args 0 ++ (Jal ((text W E Outer z).links.function n) ∷ answer_code sc p))) debt rest (λ to left. Ahead (text W E Outer z) (a ∷ others) to left work)
+        → AreNumberedGiven (body_env (code_text W E Outer z) a.function) args (types_of (map typed_of f.params)) → length args ≤ 8 → length (types_of (map typed_of f.params)) ≤ 8 → IsNumberedLeft (body_env (code_text W E Outer z) a.function) p (ty_of f.answer) → call_need p args ≤ MAX_NEED → nodes p + args_nodes args + 1 ≤ 2000
+        → CodeAt z.w k (args_code sc args 0 ++ (Jal ((code_text W E Outer z).links.function n) ∷ answer_code sc p))
+        → Block (code_text W E Outer z) a.function (k + length (args_code sc args 0 ++ (Jal ((code_text W E Outer z).links.function n) ∷ answer_code sc p))) debt rest (λ to left. Ahead (code_text W E Outer z) (a ∷ others) to left work)
         → AreLiveBefore a.live others (λ m b. any_reads args m || live_at_place p m b) rest work
         → GoesOn W E Outer z debt here (at_with k c d) (then_go (units 1) here (values_of args here.state) (λ cost vs. call_function z.p cost n vs (into p rest) work here))
     calls_function n f args p rest work is enters given count types left deep few code block live =
         let ex = its_exprs runs compose W E Outer z jumps straight held typing exprs objects gv hv hw g fs world calls answer c d a others st r waits in
         let rd = its_ready runs compose W E Outer z jumps straight held typing exprs objects gv hv hw g fs world calls answer c d a others st r waits in
-        let index : ℕ = (text W E Outer z).links.function n in
+        let index : ℕ = (code_text W E Outer z).links.function n in
         let k1 : ℕ = k + length (args_code sc args 0) in
-        let jal_at = back z.w k (args_code sc args 0) (Jal ((text W E Outer z).links.function n) ∷ answer_code sc p) code in
-        let run = args_run compose z.w sc (body_env (text W E Outer z) a.function) (bases W E Outer z objects (g ∷ fs)) a.live (state_of gv hv hw (g ∷ fs)) d ex form st.idle args (types_of (map typed_of f.params)) 0 k c rd (λ m q. live.0 m (or_left (any_reads args m) _ q)) given (functions.scalars n f is) (omega (arith, deep)) (omega (arith, few)) (omega (arith, count))
-        (front z.w k (args_code sc args 0) (Jal ((text W E Outer z).links.function n) ∷ answer_code sc p) code) in
-        let len : k + length (args_code sc args 0 ++ (Jal ((text W E Outer z).links.function n) ∷ answer_code sc p)) ≡ k1 + 1 + length (answer_code sc p) = omega (arith, length-append (args_code sc args 0) (Jal ((text W E Outer z).links.function n) ∷ answer_code sc p)) in
+        let jal_at = back z.w k (args_code sc args 0) (Jal ((code_text W E Outer z).links.function n) ∷ answer_code sc p) code in
+        let run = args_run compose z.w sc (body_env (code_text W E Outer z) a.function) (bases W E Outer z objects (g ∷ fs)) a.live (state_of gv hv hw (g ∷ fs)) d ex form st.idle args (types_of (map typed_of f.params)) 0 k c rd (λ m q. live.0 m (or_left (any_reads args m) _ q)) given (functions.scalars n f is) (omega (arith, deep)) (omega (arith, few)) (omega (arith, count))
+        (front z.w k (args_code sc args 0) (Jal ((code_text W E Outer z).links.function n) ∷ answer_code sc p) code) in
+        let len : k + length (args_code sc args 0 ++ (Jal ((code_text W E Outer z).links.function n) ∷ answer_code sc p)) ≡ k1 + 1 + length (answer_code sc p) = omega (arith, length-append (args_code sc args 0) (Jal ((code_text W E Outer z).links.function n) ∷ answer_code sc p)) in
         then_soft (GoesOn W E Outer z debt here (at_with k c d)) 0 0 debt 0 (args_nodes args) (units 1) here here (at_with k c d) a.function k k1 c d objects (InRegisters compose z.w sc (bases W E Outer z objects (g ∷ fs)) 0 (types_of (map typed_of f.params)) c) (values_of args here.state) (λ cost vs. call_function z.p cost n vs (into p rest) work here)
         (none runs z.w (at_with k c d)) (omega arith) (omega arith) st (values_within args here.state) run (λ cost f h stop. stop)
         (λ u vs c1 same least most q path.
@@ -170,6 +170,6 @@ module _ (runs : RunLaws) (compose : RunsCompose) (W E : Type 0) (Outer : W → 
         (k1 + 1) (same_reg c1.regs 31 (4 * (k1 + 1)) (λ q. absurd (omega (arith, q)))) q.fits
         (are_moved (unit_scope z.p.unit) (bases W E Outer z objects []) c1.regs (with_reg c1 31 (4 * (k1 + 1))).regs 20 (types_of (map typed_of f.params)) (shapes z.p.unit) (store_typing z.p.unit objects) vs q.fits (omega (arith, types)) (λ x lt. other_reg c1.regs 31 (4 * (k1 + 1)) x (λ q. absurd (omega (arith, q, lt))))
         (are_out c1.regs 20 (types_of (map typed_of f.params)) vs q.fits q.are))
-        (record { left = left; shallow = omega (arith, deep); few = omega (arith, few) }, jal_at.1, subst (λ y. Block (text W E Outer z) a.function y debt rest (λ to left. Ahead (text W E Outer z) (a ∷ others) to left work)) len block)
+        (record { left = left; shallow = omega (arith, deep); few = omega (arith, few) }, jal_at.1, subst (λ y. Block (code_text W E Outer z) a.function y debt rest (λ to left. Ahead (code_text W E Outer z) (a ∷ others) to left work)) len block)
         ((λ m q. live.0 m (or_right (any_reads args m) _ q)), live.1)
         way (omega (arith, most, few)) (omega arith) (omega arith))

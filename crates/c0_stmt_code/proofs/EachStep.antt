@@ -12,7 +12,7 @@ use Rattle.c0_tree.specs.Tree.{CTy, CExpr, CStmt, assign, call, new, choice, loo
 use Rattle.c0_meaning.specs.Ty.{Ty, named, ty_of}
 use Rattle.c0_meaning.specs.Env.{Env, Signature, typed_of, primitive_signature, scalar_ty}
 use Rattle.c0_meaning.specs.Limits.{is_asm}
-use Rattle.c0_meaning.specs.Words.{words, fields_named}
+use Rattle.c0_meaning.specs.Words.{words, shape_fields}
 use Rattle.c0_meaning.specs.Sound.{shapes}
 use Rattle.c0_meaning.specs.Value.{Value, Values}
 use Rattle.c0_meaning.specs.State.{Frame}
@@ -29,26 +29,26 @@ use Rattle.c0_stmt_code.specs.Code.{args_code, answer_code, stored_code, callee_
 use Rattle.c0_stmt_code.specs.Setup.{Setup}
 use Rattle.c0_stmt_code.specs.Ahead.{Activation, body_env, StatementStands, Block, Awaits, Ahead, AnswerIsLive, WaitingAreLive, AllAreLive}
 use Rattle.c0_stmt_code.specs.Live.{is_live}
-use Rattle.c0_stmt_code.proofs.Liveness.{AreLiveBefore}
-use Rattle.c0_stmt_code.specs.Standing.{text, scope, bases, end_of, unit_scope, word_of_value, AreIn, Waiting, FunctionRuns, UnderWay, ConfigurationStands, Simulated, StepIs}
-use Rattle.c0_stmt_code.proofs.Premises.{HeldStays, TypedStays, FunctionsAre, LengthsFit}
-use Rattle.c0_stmt_code.proofs.RunStretches.{Way, none as no_way, away, within}
-use Rattle.c0_stmt_code.proofs.Blocks.{skipped}
-use Rattle.c0_stmt_code.proofs.Lengths.{stmts_length}
+use Rattle.c0_stmt_code.proofs.LiveAroundSteps.{AreLiveBefore}
+use Rattle.c0_stmt_code.specs.Standing.{code_text, scope, bases, end_of, unit_scope, word_of_value, AreIn, Waiting, FunctionRuns, UnderWay, ConfigurationStands, Simulated, StepIs}
+use Rattle.c0_stmt_code.proofs.PremisesFromBelow.{HeldStays, TypedStays, FunctionsAre, LengthsFit}
+use Rattle.c0_stmt_code.proofs.RunStretches.{Stretch, none as no_way, away, within}
+use Rattle.c0_stmt_code.proofs.WorkAsCode.{skipped}
+use Rattle.c0_stmt_code.proofs.ShortStatements.{stmts_length}
 use Rattle.c0_stmt_code.proofs.FunctionsUnderWay.{standing_at, Exprs}
-use Rattle.c0_stmt_code.proofs.Statements.{assigns, chooses, turns}
-use Rattle.c0_stmt_code.proofs.Locals.{variable_is, assigns_light}
+use Rattle.c0_stmt_code.proofs.ChoicesAndLoops.{assigns, chooses, turns}
+use Rattle.c0_stmt_code.proofs.RegisterAssigned.{variable_is, assigns_light}
 use Rattle.c0_stmt_code.proofs.AnswersToRegisters.{finishes_light}
-use Rattle.c0_stmt_code.proofs.Objects.{makes_object}
+use Rattle.c0_stmt_code.proofs.ObjectMade.{makes_object}
 use Rattle.c0_runtime.specs.Laws.{NewRuns}
 use Rattle.c0_meaning.specs.Typed.{IsDeclarable}
 use Rattle.c0_asm_body.specs.Laws.{AsmRuns}
-use Rattle.c0_stmt_code.proofs.Asms.{enters_asm}
-use Rattle.c0_stmt_code.proofs.Calls.{enters, enters_light}
+use Rattle.c0_stmt_code.proofs.AsmFunctionCalled.{enters_asm}
+use Rattle.c0_stmt_code.proofs.FrameEntered.{enters, enters_light}
 use Rattle.c0_stmt_code.proofs.CallActs.{signature_from, calls_function}
-use Rattle.c0_stmt_code.proofs.Primitives.{calls_primitive}
+use Rattle.c0_stmt_code.proofs.PrimitiveCalled.{calls_primitive}
 use Rattle.c0_stmt_code.proofs.MemoryAccess.{access_longer}
-use Rattle.c0_stmt_code.proofs.Returns.{leaves, leaves_light, finishes}
+use Rattle.c0_stmt_code.proofs.FunctionReturns.{leaves, leaves_light, finishes}
 use Rattle.c0_stmt_code.proofs.StepSimulation.{GoesOn, goes_on, Path}
 
 -- a body that isn't an asm text
@@ -94,22 +94,22 @@ given_length env (e ∷ es) [] h = elim h [ ]
 
 module _ (runs : RunLaws) (compose : RunsCompose) (W E : Type 0) (Outer : W → Contents → Behind → Type 0) (z : Setup W E Outer) (jumps : JumpsLead z.w) (straight : StraightRuns z.w)
     (held : HeldStays (shapes z.p.unit)) (typing : TypedStays z.p.unit) (functions : FunctionsAre z.table z.p.unit) (exprs : Exprs W E Outer z) (fit : (f : CFunction) → LengthsFit (scope W E Outer z f))
-    (asm_runs : AsmRuns z.w) (opened : (x : List ℕ) → words (shapes z.p.unit) (named x) ≡ words_of_all (shapes z.p.unit) (types_of (fields_named (shapes z.p.unit) x)))
+    (asm_runs : AsmRuns z.w) (opened : (x : List ℕ) → words (shapes z.p.unit) (named x) ≡ words_of_all (shapes z.p.unit) (types_of (shape_fields (shapes z.p.unit) x)))
     (new_runs : NewRuns z.w) (some_words : (t : CTy) → IsDeclarable (shapes z.p.unit) t → 1 ≤ words (shapes z.p.unit) (ty_of t)) where
   -- the first call
   begins : (objects : List Ty) (gv hv : Value) (hw : ℕ) (fs : List Frame) (world : W) (calls : List (List E)) (answer : Option Value) (c : Contents) (d : Behind) (acts : List Activation)
       → ConfigurationStands W E Outer z objects (standing_at gv hv hw fs world calls answer) c d → Waiting W E Outer z objects c.memory acts fs → c.regs 29 ≡ 4 * end_of W E Outer z fs
       → (n to debt : ℕ) (f : CFunction) → slice_get z.p.unit.functions n ≡ Some f → (args : Values) (target : Target) (work : List Work) → c.regs 31 ≡ 4 * to
       → AllFit (shapes z.p.unit) (store_typing z.p.unit objects) (types_of (map typed_of f.params)) args → AreIn (unit_scope z.p.unit) (bases W E Outer z objects []) c.regs 20 args
-      → Awaits (text W E Outer z) acts to debt (ty_of f.answer) target work (λ others at left. Ahead (text W E Outer z) others at left work) → AnswerIsLive acts target work (λ below. WaitingAreLive below work)
-      → (l m : ℕ) (cost : Cost) (h0 : Configuration W E) (s0 : CodeState) → Path runs compose W E Outer z jumps l m s0 (at_with ((text W E Outer z).links.function n) c d) → cost.own + 9 ≤ 2048 * (l + 1) → m ≤ 30 * cost.own → length calls ≡ calls_ended h0
+      → Awaits (code_text W E Outer z) acts to debt (ty_of f.answer) target work (λ others at left. Ahead (code_text W E Outer z) others at left work) → AnswerIsLive acts target work (λ below. WaitingAreLive below work)
+      → (l m : ℕ) (cost : Cost) (h0 : Configuration W E) (s0 : CodeState) → Path runs compose W E Outer z jumps l m s0 (at_with ((code_text W E Outer z).links.function n) c d) → cost.own + 9 ≤ 2048 * (l + 1) → m ≤ 30 * cost.own → length calls ≡ calls_ended h0
       → GoesOn W E Outer z debt h0 s0 (call_function z.p cost n args target work (standing_at gv hv hw fs world calls answer))
   begins objects gv hv hw fs world calls answer c d acts st waits at_end n to debt f is args target work return_at fits arguments ahead live l m cost h0 s0 path low high en =
       by_body f.body refl
     where
       by_form : (b : Bool) → (scope W E Outer z f).in_registers ≡ b → HasCode f.body → GoesOn W E Outer z debt h0 s0 (call_function z.p cost n args target work (standing_at gv hv hw fs world calls answer))
-      by_form false form b = enters runs compose W E Outer z jumps straight held typing functions opened objects gv hv hw fs world calls answer c d acts st waits at_end n to debt f is args target work return_at fits arguments ahead live l m ((text W E Outer z).links.function n) cost h0 s0 b.locals b.stmts b.answer b.is form path (z.functions n f is) low high en
-      by_form true form b = enters_light runs compose W E Outer z jumps straight held typing functions opened objects gv hv hw fs world calls answer c d acts st waits at_end n to debt f is args target work return_at fits arguments ahead live l m ((text W E Outer z).links.function n) cost h0 s0 b.locals b.stmts b.answer b.is form path (z.functions n f is) low high en
+      by_form false form b = enters runs compose W E Outer z jumps straight held typing functions opened objects gv hv hw fs world calls answer c d acts st waits at_end n to debt f is args target work return_at fits arguments ahead live l m ((code_text W E Outer z).links.function n) cost h0 s0 b.locals b.stmts b.answer b.is form path (z.functions n f is) low high en
+      by_form true form b = enters_light runs compose W E Outer z jumps straight held typing functions opened objects gv hv hw fs world calls answer c d acts st waits at_end n to debt f is args target work return_at fits arguments ahead live l m ((code_text W E Outer z).links.function n) cost h0 s0 b.locals b.stmts b.answer b.is form path (z.functions n f is) low high en
 
       by_body : (b : CBody) → f.body ≡ b → GoesOn W E Outer z debt h0 s0 (call_function z.p cost n args target work (standing_at gv hv hw fs world calls answer))
       by_body (code ls ss result) e = by_form (scope W E Outer z f).in_registers refl (record { locals = ls; stmts = ss; answer = result; is = e })
@@ -117,7 +117,7 @@ module _ (runs : RunLaws) (compose : RunsCompose) (W E : Type 0) (Outer : W → 
           let q = functions.asms n f bytes span ws is e in
           let l4 = q.1 in
           let size = params_length f.params in
-          enters_asm runs compose W E Outer z jumps straight held asm_runs objects gv hv hw fs world calls answer c d acts st waits at_end n to debt f is args target work return_at fits arguments ahead live l m ((text W E Outer z).links.function n) cost h0 s0 bytes span ws e q.0 (omega (arith, l4, size)) size q.2 q.3 path (z.functions n f is) low high en
+          enters_asm runs compose W E Outer z jumps straight held asm_runs objects gv hv hw fs world calls answer c d acts st waits at_end n to debt f is args target work return_at fits arguments ahead live l m ((code_text W E Outer z).links.function n) cost h0 s0 bytes span ws e q.0 (omega (arith, l4, size)) size q.2 q.3 path (z.functions n f is) low high en
 
   module _ (objects : List Ty) (gv hv : Value) (hw : ℕ) (g : Frame) (fs : List Frame) (world : W) (calls : List (List E)) (answer : Option Value) (c : Contents) (d : Behind) (a : Activation) (others : List Activation)
       (st : ConfigurationStands W E Outer z objects (standing_at gv hv hw (g ∷ fs) world calls answer) c d) (r : FunctionRuns W E Outer z objects c a g fs) (waits : Waiting W E Outer z objects c.memory others fs)
@@ -129,43 +129,43 @@ module _ (runs : RunLaws) (compose : RunsCompose) (W E : Type 0) (Outer : W → 
     here = standing_at gv hv hw (g ∷ fs) world calls answer
 
     abbrev At : ℕ → CStmts → List Work → Type 0
-    At k rest work = Block (text W E Outer z) a.function k debt rest (λ to left. Ahead (text W E Outer z) (a ∷ others) to left work)
+    At k rest work = Block (code_text W E Outer z) a.function k debt rest (λ to left. Ahead (code_text W E Outer z) (a ∷ others) to left work)
 
     -- a statement
-    states : (t : CStmt) (rest : CStmts) (work : List Work) → StatementStands (text W E Outer z) a.function k t → At (k + length (stmt_code sc (text W E Outer z).links t)) rest work → AreLiveBefore a.live others (λ n b. is_live t n b) rest work
+    states : (t : CStmt) (rest : CStmts) (work : List Work) → StatementStands (code_text W E Outer z) a.function k t → At (k + length (stmt_code sc (code_text W E Outer z).links t)) rest work → AreLiveBefore a.live others (λ n b. is_live t n b) rest work
         → StepIs W E Outer z debt (act_on t rest) here (at_with k c d) (act_statement z.p t rest work here)
     states (assign s p v) rest work stands block live = goes_on W E Outer z debt (act_on (assign s p v) rest) here (at_with k c d) (act_statement z.p (assign s p v) rest work here) (by_rule stands.typed)
       where
-        by_rule : IsNumbered (body_env (text W E Outer z) a.function) (assign s p v) → GoesOn W E Outer z debt here (at_with k c d) (act_statement z.p (assign s p v) rest work here)
+        by_rule : IsNumbered (body_env (code_text W E Outer z) a.function) (assign s p v) → GoesOn W E Outer z debt here (at_with k c d) (act_statement z.p (assign s p v) rest work here)
         by_rule (an_assignment {t = t} left given deep) = by_stands (made sc p).stands refl
           where
             by_stands : (o : Option ℕ) → (made sc p).stands ≡ o → GoesOn W E Outer z debt here (at_with k c d) (act_statement z.p (assign s p v) rest work here)
             by_stands None e = let few = stands.few in
                 assigns runs compose W E Outer z jumps straight held typing exprs fit objects gv hv hw g fs world calls answer c d a others st r waits k debt rest work p v t left given deep (omega (arith, few)) e stands.code block live
             by_stands (Some x) e = let few = stands.few in
-                assigns_light runs compose W E Outer z jumps straight held typing exprs fit objects gv hv hw g fs world calls answer c d a others st r waits k debt rest work p v t x (variable_is (body_env (text W E Outer z) a.function) sc x p t left.typed left.place e) left given deep (omega (arith, few)) e stands.code block live
+                assigns_light runs compose W E Outer z jumps straight held typing exprs fit objects gv hv hw g fs world calls answer c d a others st r waits k debt rest work p v t x (variable_is (body_env (code_text W E Outer z) a.function) sc x p t left.typed left.place e) left given deep (omega (arith, few)) e stands.code block live
     states (choice s t x y) rest work stands block live = goes_on W E Outer z debt (act_on (choice s t x y) rest) here (at_with k c d) (act_statement z.p (choice s t x y) rest work here) (by_rule stands.typed)
       where
-        by_rule : IsNumbered (body_env (text W E Outer z) a.function) (choice s t x y) → GoesOn W E Outer z debt here (at_with k c d) (act_statement z.p (choice s t x y) rest work here)
+        by_rule : IsNumbered (body_env (code_text W E Outer z) a.function) (choice s t x y) → GoesOn W E Outer z debt here (at_with k c d) (act_statement z.p (choice s t x y) rest work here)
         by_rule (a_choice test tx ty) = let few = stands.few in
             chooses runs compose W E Outer z jumps straight held typing exprs fit objects gv hv hw g fs world calls answer c d a others st r waits k debt rest work t x y test tx ty (omega (arith, few)) stands.free stands.calls stands.code block live
     states (loop s t b) rest work stands block live = goes_on W E Outer z debt (act_on (loop s t b) rest) here (at_with k c d) (act_statement z.p (loop s t b) rest work here) (by_rule stands.typed)
       where
-        by_rule : IsNumbered (body_env (text W E Outer z) a.function) (loop s t b) → GoesOn W E Outer z debt here (at_with k c d) (act_statement z.p (loop s t b) rest work here)
+        by_rule : IsNumbered (body_env (code_text W E Outer z) a.function) (loop s t b) → GoesOn W E Outer z debt here (at_with k c d) (act_statement z.p (loop s t b) rest work here)
         by_rule (a_loop test tb) =
             let few = stands.few in
-            let l = stmts_length sc (text W E Outer z).links (fit a.function) b in
-            let go = away runs z.w 1 (at_with k c d) (at_with (k + 1 + length (stmts_code sc (text W E Outer z).links b)) c d) (λ q. absurd (omega (arith, q))) (skipped runs compose z.w jumps k (length (stmts_code sc (text W E Outer z).links b)) c d st.idle (omega (arith, l, few)) stands.code.0) in
+            let l = stmts_length sc (code_text W E Outer z).links (fit a.function) b in
+            let go = away runs z.w 1 (at_with k c d) (at_with (k + 1 + length (stmts_code sc (code_text W E Outer z).links b)) c d) (λ q. absurd (omega (arith, q))) (skipped runs compose z.w jumps k (length (stmts_code sc (code_text W E Outer z).links b)) c d st.idle (omega (arith, l, few)) stands.code.0) in
             turns runs compose W E Outer z jumps straight held typing exprs fit objects gv hv hw g fs world calls answer c d a others st r waits k debt rest work k 1 2 (at_with k c d) t b
             (record { test = test; body_typed = tb; few = omega (arith, few); free = stands.free; calls = stands.calls; code = stands.code }) block (omega arith) (omega arith) (omega arith) live (within runs z.w 1 1 0 1 _ _ (omega arith) (omega arith) go)
     states (new s p t ts) rest work stands block live = goes_on W E Outer z debt (act_on (new s p t ts) rest) here (at_with k c d) (act_statement z.p (new s p t ts) rest work here) (by_rule stands.typed)
       where
-        by_rule : IsNumbered (body_env (text W E Outer z) a.function) (new s p t ts) → GoesOn W E Outer z debt here (at_with k c d) (act_statement z.p (new s p t ts) rest work here)
+        by_rule : IsNumbered (body_env (code_text W E Outer z) a.function) (new s p t ts) → GoesOn W E Outer z debt here (at_with k c d) (act_statement z.p (new s p t ts) rest work here)
         by_rule (an_object left declarable settled shallow) = let few = stands.few in
             makes_object runs compose W E Outer z jumps straight held typing exprs new_runs some_words opened objects gv hv hw g fs world calls answer c d a others st r waits (stands.calls refl) k debt t declarable s p rest work left shallow (omega (arith, few)) stands.code block live
     states (call s p cs callee args) rest work stands block live = by_rule stands.typed
       where
-        by_rule : IsNumbered (body_env (text W E Outer z) a.function) (call s p cs callee args) → StepIs W E Outer z debt (act_on (call s p cs callee args) rest) here (at_with k c d) (act_statement z.p (call s p cs callee args) rest work here)
+        by_rule : IsNumbered (body_env (code_text W E Outer z) a.function) (call s p cs callee args) → StepIs W E Outer z debt (act_on (call s p cs callee args) rest) here (at_with k c d) (act_statement z.p (call s p cs callee args) rest work here)
         by_rule (a_call {c = signature} found left given deep) = by_kind callee.kind refl
           where
             in_frame : (b : Bool) → sc.in_registers ≡ b → (sc.in_registers ≡ true → IsTrue (is_free_of_calls (call s p cs callee args))) → b ≡ false
@@ -174,16 +174,16 @@ module _ (runs : RunLaws) (compose : RunsCompose) (W E : Type 0) (Outer : W → 
 
             by_kind : (kd : Kind) → callee.kind ≡ kd → StepIs W E Outer z debt (act_on (call s p cs callee args) rest) here (at_with k c d) (act_statement z.p (call s p cs callee args) rest work here)
             by_kind Function e =
-                let is = subst (λ kd. callee_at (body_env (text W E Outer z) a.function) kd callee.number ≡ Some signature) e found in
+                let is = subst (λ kd. callee_at (body_env (code_text W E Outer z) a.function) kd callee.number ≡ Some signature) e found in
                 let q = signature_from z.p.unit.functions callee.number signature is in
                 let few = stands.few in
                 let types : signature.params ≡ types_of (map typed_of q.0.params) = sym (ap (λ y. y.params) q.2) ∙ types_of_params q.0.params in
-                let given2 = subst (λ ts. AreNumberedGiven (body_env (text W E Outer z) a.function) args ts) types given in
-                let left2 = subst (λ t. IsNumberedLeft (body_env (text W E Outer z) a.function) p t) (sym (ap (λ y. y.answer) q.2)) left in
+                let given2 = subst (λ ts. AreNumberedGiven (body_env (code_text W E Outer z) a.function) args ts) types given in
+                let left2 = subst (λ t. IsNumberedLeft (body_env (code_text W E Outer z) a.function) p t) (sym (ap (λ y. y.answer) q.2)) left in
                 let many = functions.few callee.number q.0 q.1 in
-                let count = given_length (body_env (text W E Outer z) a.function) args (types_of (map typed_of q.0.params)) given2 in
+                let count = given_length (body_env (code_text W E Outer z) a.function) args (types_of (map typed_of q.0.params)) given2 in
                 let size = params_length q.0.params in
-                let index : callee_index (text W E Outer z).links callee.kind callee.number ≡ (text W E Outer z).links.function callee.number = ap (λ kd. callee_index (text W E Outer z).links kd callee.number) e in
+                let index : callee_index (code_text W E Outer z).links callee.kind callee.number ≡ (code_text W E Outer z).links.function callee.number = ap (λ kd. callee_index (code_text W E Outer z).links kd callee.number) e in
                 goes_on W E Outer z debt (act_on (call s p cs callee args) rest) here (at_with k c d) (act_statement z.p (call s p cs callee args) rest work here)
                 (subst (λ kd. GoesOn W E Outer z debt here (at_with k c d) (then_go (units 1) here (values_of args here.state) (λ cost vs. call_with z.p cost kd callee.number vs (into p rest) work here))) (sym e)
                 (calls_function runs compose W E Outer z jumps straight held typing functions exprs objects gv hv hw g fs world calls answer c d a others st r waits (in_frame sc.in_registers refl stands.free) (stands.calls refl) k debt callee.number q.0 args p rest work q.1
@@ -192,31 +192,31 @@ module _ (runs : RunLaws) (compose : RunsCompose) (W E : Type 0) (Outer : W → 
                 (subst (λ i. CodeAt z.w k (args_code sc args 0 ++ (Jal i ∷ answer_code sc p))) index stands.code)
                 (subst (λ i. At (k + length (args_code sc args 0 ++ (Jal i ∷ answer_code sc p))) rest work) index block) live))
             by_kind Primitive e =
-                let is = subst (λ kd. callee_at (body_env (text W E Outer z) a.function) kd callee.number ≡ Some signature) e found in
+                let is = subst (λ kd. callee_at (body_env (code_text W E Outer z) a.function) kd callee.number ≡ Some signature) e found in
                 let q = primitive_from z.table callee.number signature is in
                 let few = stands.few in
-                let given2 = subst (λ ts. AreNumberedGiven (body_env (text W E Outer z) a.function) args ts) (sym (ap (λ y. y.params) q.2)) given in
-                let left2 = subst (λ t. IsNumberedLeft (body_env (text W E Outer z) a.function) p t) (sym (ap (λ y. y.answer) q.2)) left in
+                let given2 = subst (λ ts. AreNumberedGiven (body_env (code_text W E Outer z) a.function) args ts) (sym (ap (λ y. y.params) q.2)) given in
+                let left2 = subst (λ t. IsNumberedLeft (body_env (code_text W E Outer z) a.function) p t) (sym (ap (λ y. y.answer) q.2)) left in
                 let many = z.few_arguments callee.number q.0 q.1 in
-                let count = given_length (body_env (text W E Outer z) a.function) args (map scalar_ty q.0.args) given2 in
+                let count = given_length (body_env (code_text W E Outer z) a.function) args (map scalar_ty q.0.args) given2 in
                 let size = scalars_length q.0.args in
-                let index : callee_index (text W E Outer z).links callee.kind callee.number ≡ (text W E Outer z).links.primitive callee.number = ap (λ kd. callee_index (text W E Outer z).links kd callee.number) e in
+                let index : callee_index (code_text W E Outer z).links callee.kind callee.number ≡ (code_text W E Outer z).links.primitive callee.number = ap (λ kd. callee_index (code_text W E Outer z).links kd callee.number) e in
                 subst (λ kd. StepIs W E Outer z debt (act_on (call s p cs callee args) rest) here (at_with k c d) (then_go (units 1) here (values_of args here.state) (λ cost vs. call_with z.p cost kd callee.number vs (into p rest) work here))) (sym e)
                 (calls_primitive runs compose W E Outer z jumps straight held typing exprs objects gv hv hw g fs world calls answer c d a others st r waits (in_frame sc.in_registers refl stands.free) (stands.calls refl) k debt callee.number q.0 args p rest work q.1
                 given2 (omega (arith, count, size, many)) (act_on (call s p cs callee args) rest) (λ u vs same. (e, refl, (u, same))) left2 deep (omega (arith, few)) (answer_some sc p)
                 (subst (λ i. CodeAt z.w k (args_code sc args 0 ++ (Jal i ∷ answer_code sc p))) index stands.code)
                 (subst (λ i. At (k + length (args_code sc args 0 ++ (Jal i ∷ answer_code sc p))) rest work) index block) live)
-            by_kind Unresolved e = let is = subst (λ kd. callee_at (body_env (text W E Outer z) a.function) kd callee.number ≡ Some signature) e found in absurd (cc)
-            by_kind Struct e = let is = subst (λ kd. callee_at (body_env (text W E Outer z) a.function) kd callee.number ≡ Some signature) e found in absurd (cc)
-            by_kind Field e = let is = subst (λ kd. callee_at (body_env (text W E Outer z) a.function) kd callee.number ≡ Some signature) e found in absurd (cc)
-            by_kind Global e = let is = subst (λ kd. callee_at (body_env (text W E Outer z) a.function) kd callee.number ≡ Some signature) e found in absurd (cc)
-            by_kind Local e = let is = subst (λ kd. callee_at (body_env (text W E Outer z) a.function) kd callee.number ≡ Some signature) e found in absurd (cc)
+            by_kind Unresolved e = let is = subst (λ kd. callee_at (body_env (code_text W E Outer z) a.function) kd callee.number ≡ Some signature) e found in absurd (cc)
+            by_kind Struct e = let is = subst (λ kd. callee_at (body_env (code_text W E Outer z) a.function) kd callee.number ≡ Some signature) e found in absurd (cc)
+            by_kind Field e = let is = subst (λ kd. callee_at (body_env (code_text W E Outer z) a.function) kd callee.number ≡ Some signature) e found in absurd (cc)
+            by_kind Global e = let is = subst (λ kd. callee_at (body_env (code_text W E Outer z) a.function) kd callee.number ≡ Some signature) e found in absurd (cc)
+            by_kind Local e = let is = subst (λ kd. callee_at (body_env (code_text W E Outer z) a.function) kd callee.number ≡ Some signature) e found in absurd (cc)
 
     -- a work item of the function that runs
-    acts : (item : Work) (work : List Work) → Ahead (text W E Outer z) (a ∷ others) k debt (item ∷ work) → AllAreLive (a ∷ others) (item ∷ work) → StepIs W E Outer z debt item here (at_with k c d) (work_step z.p item work here)
+    acts : (item : Work) (work : List Work) → Ahead (code_text W E Outer z) (a ∷ others) k debt (item ∷ work) → AllAreLive (a ∷ others) (item ∷ work) → StepIs W E Outer z debt item here (at_with k c d) (work_step z.p item work here)
     acts (act_on t rest) work ahead live = states t rest work ahead.0 ahead.1 live
     acts (again t body rest) work ahead live =
-        let path : Path runs compose W E Outer z jumps 0 0 (at_with k c d) (at_with (ahead.0 + 1 + length (stmts_code sc (text W E Outer z).links body)) c d) = subst (λ y. Way runs z.w 0 0 (at_with k c d) (at_with y c d)) ahead.2 (no_way runs z.w (at_with k c d)) in
+        let path : Path runs compose W E Outer z jumps 0 0 (at_with k c d) (at_with (ahead.0 + 1 + length (stmts_code sc (code_text W E Outer z).links body)) c d) = subst (λ y. Stretch runs z.w 0 0 (at_with k c d) (at_with y c d)) ahead.2 (no_way runs z.w (at_with k c d)) in
         goes_on W E Outer z debt (again t body rest) here (at_with k c d) (work_step z.p (again t body rest) work here)
         (turns runs compose W E Outer z jumps straight held typing exprs fit objects gv hv hw g fs world calls answer c d a others st r waits k debt rest work ahead.0 0 1 (at_with k c d) t body ahead.1 ahead.3 (omega arith) (omega arith) (omega arith) live path)
     acts (leave result target) work ahead live = goes_on W E Outer z debt (leave result target) here (at_with k c d) (work_step z.p (leave result target) work here) (by_form sc.in_registers refl)
@@ -228,7 +228,7 @@ module _ (runs : RunLaws) (compose : RunsCompose) (W E : Type 0) (Outer : W → 
     acts (begin n args) work ahead live = absurd ahead
 
   by_parts : (frames : List Frame) (objects : List Ty) (gv hv : Value) (hw : ℕ) (world : W) (calls : List (List E)) (answer : Option Value) (c : Contents) (d : Behind) (under_way : List Activation) (k debt : ℕ) (item : Work) (work : List Work)
-      → ConfigurationStands W E Outer z objects (standing_at gv hv hw frames world calls answer) c d → UnderWay W E Outer z objects c under_way frames → Ahead (text W E Outer z) under_way k debt (item ∷ work) → AllAreLive under_way (item ∷ work)
+      → ConfigurationStands W E Outer z objects (standing_at gv hv hw frames world calls answer) c d → UnderWay W E Outer z objects c under_way frames → Ahead (code_text W E Outer z) under_way k debt (item ∷ work) → AllAreLive under_way (item ∷ work)
       → StepIs W E Outer z debt item (standing_at gv hv hw frames world calls answer) (at_with k c d) (work_step z.p item work (standing_at gv hv hw frames world calls answer))
   by_parts (g ∷ fs) objects gv hv hw world calls answer c d (a ∷ others) k debt item work st under ahead live =
       acts objects gv hv hw g fs world calls answer c d a others st under.0 under.1 k debt item work ahead live
@@ -238,7 +238,7 @@ module _ (runs : RunLaws) (compose : RunsCompose) (W E : Type 0) (Outer : W → 
 
   finish_parts : (frames : List Frame) (objects : List Ty) (gv hv : Value) (hw : ℕ) (world : W) (calls : List (List E)) (answer : Option Value) (c : Contents) (d : Behind) (under_way : List Activation) (k debt : ℕ) (place : CExpr) (v : Value) (rest : CStmts) (work : List Work) (t : Ty)
       → ConfigurationStands W E Outer z objects (standing_at gv hv hw frames world calls answer) c d → UnderWay W E Outer z objects c under_way frames → Fits (shapes z.p.unit) (store_typing z.p.unit objects) t v → c.regs 2 ≡ word_of_value W E Outer z objects v
-      → Awaits (text W E Outer z) under_way k debt t (into place rest) work (λ others to left. Ahead (text W E Outer z) others to left work) → AnswerIsLive under_way (into place rest) work (λ below. WaitingAreLive below work)
+      → Awaits (code_text W E Outer z) under_way k debt t (into place rest) work (λ others to left. Ahead (code_text W E Outer z) others to left work) → AnswerIsLive under_way (into place rest) work (λ below. WaitingAreLive below work)
       → GoesOn W E Outer z debt (standing_at gv hv hw frames world calls answer) (at_with k c d) (work_step z.p (finish place v rest) work (standing_at gv hv hw frames world calls answer))
   finish_parts (g ∷ fs) objects gv hv hw world calls answer c d (a ∷ others) k debt place v rest work t st under fits is ahead live =
       by_stands (made (scope W E Outer z a.function) place).stands refl
@@ -246,18 +246,18 @@ module _ (runs : RunLaws) (compose : RunsCompose) (W E : Type 0) (Outer : W → 
       by_stands : (o : Option ℕ) → (made (scope W E Outer z a.function) place).stands ≡ o → GoesOn W E Outer z debt (standing_at gv hv hw (g ∷ fs) world calls answer) (at_with k c d) (work_step z.p (finish place v rest) work (standing_at gv hv hw (g ∷ fs) world calls answer))
       by_stands None e = finishes runs compose W E Outer z jumps straight held typing functions exprs fit objects gv hv hw g fs world calls answer c d a others st under.0 under.1 k debt place v rest work t fits is e ahead.0 ahead.1 ahead.2 live
       by_stands (Some x) e = let left = ahead.0.left in
-          finishes_light runs compose W E Outer z jumps straight held typing exprs fit opened objects gv hv hw g fs world calls answer c d a others st under.0 under.1 k debt rest work place v t x fits is (variable_is (body_env (text W E Outer z) a.function) (scope W E Outer z a.function) x place t left.typed left.place e) e ahead.0 ahead.1 ahead.2 live
+          finishes_light runs compose W E Outer z jumps straight held typing exprs fit opened objects gv hv hw g fs world calls answer c d a others st under.0 under.1 k debt rest work place v t x fits is (variable_is (body_env (code_text W E Outer z) a.function) (scope W E Outer z a.function) x place t left.typed left.place e) e ahead.0 ahead.1 ahead.2 live
   finish_parts [] objects gv hv hw world calls answer c d [] k debt place v rest work t st under fits is ahead live = absurd under
   finish_parts [] objects gv hv hw world calls answer c d (a ∷ others) k debt place v rest work t st under fits is ahead live = absurd under
   finish_parts (g ∷ fs) objects gv hv hw world calls answer c d [] k debt place v rest work t st under fits is ahead live = absurd under
 
   begin_parts : (frames : List Frame) (objects : List Ty) (gv hv : Value) (hw : ℕ) (world : W) (calls : List (List E)) (answer : Option Value) (c : Contents) (d : Behind) (under_way : List Activation) (k debt n to : ℕ) (args : Values) (work : List Work) (f : CFunction)
-      → ConfigurationStands W E Outer z objects (standing_at gv hv hw frames world calls answer) c d → Waiting W E Outer z objects c.memory under_way frames → c.regs 29 ≡ 4 * end_of W E Outer z frames → slice_get z.p.unit.functions n ≡ Some f → k ≡ (text W E Outer z).links.function n → c.regs 31 ≡ 4 * to
-      → AllFit (shapes z.p.unit) (store_typing z.p.unit objects) (types_of (map typed_of f.params)) args → AreIn (unit_scope z.p.unit) (bases W E Outer z objects []) c.regs 20 args → Awaits (text W E Outer z) under_way to debt (ty_of f.answer) outward work (λ others at left. Ahead (text W E Outer z) others at left work)
+      → ConfigurationStands W E Outer z objects (standing_at gv hv hw frames world calls answer) c d → Waiting W E Outer z objects c.memory under_way frames → c.regs 29 ≡ 4 * end_of W E Outer z frames → slice_get z.p.unit.functions n ≡ Some f → k ≡ (code_text W E Outer z).links.function n → c.regs 31 ≡ 4 * to
+      → AllFit (shapes z.p.unit) (store_typing z.p.unit objects) (types_of (map typed_of f.params)) args → AreIn (unit_scope z.p.unit) (bases W E Outer z objects []) c.regs 20 args → Awaits (code_text W E Outer z) under_way to debt (ty_of f.answer) outward work (λ others at left. Ahead (code_text W E Outer z) others at left work)
       → GoesOn W E Outer z debt (standing_at gv hv hw frames world calls answer) (at_with k c d) (work_step z.p (begin n args) work (standing_at gv hv hw frames world calls answer))
   begin_parts [] objects gv hv hw world calls answer c d [] k debt n to args work f st waits at_end is at ret fits are ahead =
       begins objects gv hv hw [] world calls answer c d [] st waits at_end n to debt f is args outward work ret fits are ahead tt 0 0 (units 0) (standing_at gv hv hw [] world calls answer) (at_with k c d)
-      (subst (λ y. Way runs z.w 0 0 (at_with k c d) (at_with y c d)) at (no_way runs z.w (at_with k c d))) (omega arith) (omega arith) (omega arith)
+      (subst (λ y. Stretch runs z.w 0 0 (at_with k c d) (at_with y c d)) at (no_way runs z.w (at_with k c d))) (omega arith) (omega arith) (omega arith)
   begin_parts (g ∷ fs) objects gv hv hw world calls answer c d [] k debt n to args work f st waits at_end is at ret fits are ahead = absurd waits
   begin_parts frames objects gv hv hw world calls answer c d (a ∷ others) k debt n to args work f st waits at_end is at ret fits are ahead = absurd ahead
 

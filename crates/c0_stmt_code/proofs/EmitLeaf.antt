@@ -19,7 +19,7 @@ use Rattle.c0_expr_code.specs.Scope.{Scope}
 use Rattle.c0_expr_code.specs.Code.{access_code, register_of_variable}
 use Rattle.c0_stmt_code.specs.Code.{clear_code, clear_one, frame_slot, params_code, zero_code, zeros_code}
 use Rattle.c0_stmt_code.specs.EmitLeaf.{FramesAreThose}
-use Rattle.c0_stmt_code.proofs.Premises.{AllScalar}
+use Rattle.c0_stmt_code.proofs.PremisesFromBelow.{AllScalar}
 use Rattle.c0_stmt_code.proofs.ExpressionLaws.{functions_are}
 
 -- a piece of code is appended, and the rest is to come

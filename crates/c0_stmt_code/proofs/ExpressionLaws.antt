@@ -24,9 +24,9 @@ use Rattle.c0_expr_code.specs.Relation.{StateIsTyped, Area}
 use Rattle.c0_expr_code.specs.Laws as below
 use Rattle.c0_stmt_code.specs.Setup.{Setup}
 use Rattle.c0_stmt_code.specs.Ahead.{body_env}
-use Rattle.c0_stmt_code.specs.Standing.{text, scope, bases}
-use Rattle.c0_stmt_code.proofs.Premises.{AreInts, FunctionsAre, AllScalar}
-use Rattle.c0_stmt_code.proofs.Rooms.{frame_on, words_by_types}
+use Rattle.c0_stmt_code.specs.Standing.{code_text, scope, bases}
+use Rattle.c0_stmt_code.proofs.PremisesFromBelow.{AreInts, FunctionsAre, AllScalar}
+use Rattle.c0_stmt_code.proofs.RegionsApart.{frame_on, words_by_types}
 use Rattle.c0_stmt_code.proofs.FunctionsUnderWay.{Exprs}
 
 at_number : {A : Type 0} (P : A → Type 0) (xs : List A) (i : ℕ) (x : A) → All P xs → slice_get xs i ≡ Some x → P x
@@ -70,12 +70,12 @@ module _ (places_run : below.PlacesRun) (given_run : below.GivenRun) (tests_run 
   exprs objects s g fs f live e is typed declared room stack =
       let ar = area objects g fs f is declared room stack in
       let sn = is_typed objects s (g ∷ fs) g fs f e refl is typed in
-      let same : below.HaveSameNames (body_env (text W E Outer z) f) (scope W E Outer z f).env = record { structs = refl; globals = refl; locals = refl } in
+      let same : below.HaveSameNames (body_env (code_text W E Outer z) f) (scope W E Outer z f).env = record { structs = refl; globals = refl; locals = refl } in
       record {
-        value = λ x t given scalar few cover. (given_run z.w (scope W E Outer z f) (bases W E Outer z objects (g ∷ fs)) live s z.sound ar sn x t (given_in names (body_env (text W E Outer z) f) (scope W E Outer z f).env same x t given) few cover).value scalar;
-        operand = λ x t given scalar few cover. (given_run z.w (scope W E Outer z f) (bases W E Outer z objects (g ∷ fs)) live s z.sound ar sn x t (given_in names (body_env (text W E Outer z) f) (scope W E Outer z f).env same x t given) few cover).operand scalar;
-        place = λ x t left few stands cover. places_run z.w (scope W E Outer z f) (bases W E Outer z objects (g ∷ fs)) live s z.sound ar sn x t (names (body_env (text W E Outer z) f) (scope W E Outer z f).env same x t left.typed) few cover left.place stands;
-        test = λ x given few cover. tests_run z.w (scope W E Outer z f) (bases W E Outer z objects (g ∷ fs)) live s z.sound ar sn x (given_in names (body_env (text W E Outer z) f) (scope W E Outer z f).env same x ty.bool given) few cover;
+        value = λ x t given scalar few cover. (given_run z.w (scope W E Outer z f) (bases W E Outer z objects (g ∷ fs)) live s z.sound ar sn x t (given_in names (body_env (code_text W E Outer z) f) (scope W E Outer z f).env same x t given) few cover).value scalar;
+        operand = λ x t given scalar few cover. (given_run z.w (scope W E Outer z f) (bases W E Outer z objects (g ∷ fs)) live s z.sound ar sn x t (given_in names (body_env (code_text W E Outer z) f) (scope W E Outer z f).env same x t given) few cover).operand scalar;
+        place = λ x t left few stands cover. places_run z.w (scope W E Outer z f) (bases W E Outer z objects (g ∷ fs)) live s z.sound ar sn x t (names (body_env (code_text W E Outer z) f) (scope W E Outer z f).env same x t left.typed) few cover left.place stands;
+        test = λ x given few cover. tests_run z.w (scope W E Outer z f) (bases W E Outer z objects (g ∷ fs)) live s z.sound ar sn x (given_in names (body_env (code_text W E Outer z) f) (scope W E Outer z f).env same x ty.bool given) few cover;
       }
 
 -- functions of a unit that is well formed

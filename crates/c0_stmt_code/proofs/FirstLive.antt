@@ -11,8 +11,8 @@ use Rattle.c0_meaning.specs.Sizes.{words_before}
 use Rattle.c0_meaning.specs.TypedState.{types_of}
 use Rattle.c0_expr_code.specs.Bases.{words_of_all}
 use Rattle.c0_stmt_code.specs.Live.{are_scalar, is_cleared}
-use Rattle.c0_stmt_code.proofs.Blocks.{or_left}
-use Rattle.c0_stmt_code.proofs.Premises.{AllScalar}
+use Rattle.c0_stmt_code.proofs.WorkAsCode.{or_left}
+use Rattle.c0_stmt_code.proofs.PremisesFromBelow.{AllScalar}
 use Rattle.c0_stmt_code.proofs.RegisterFrames.{each_scalar}
 
 -- a scalar has one word

@@ -17,8 +17,8 @@ use Rattle.c0_expr_code.specs.Relation.{Ready, KeepsRegisters}
 use Rattle.c0_stmt_code.specs.Code.{calls_in}
 use Rattle.c0_stmt_code.specs.Setup.{Setup}
 use Rattle.c0_stmt_code.specs.Ahead.{Activation, body_env}
-use Rattle.c0_stmt_code.specs.Standing.{text, scope, bases, end_of, unit_scope, Waiting, FunctionRuns, UnderWay, ConfigurationStands}
-use Rattle.c0_stmt_code.proofs.Premises.{ExpressionsDo, HeldStays}
+use Rattle.c0_stmt_code.specs.Standing.{code_text, scope, bases, end_of, unit_scope, Waiting, FunctionRuns, UnderWay, ConfigurationStands}
+use Rattle.c0_stmt_code.proofs.PremisesFromBelow.{ExpressionsDo, HeldStays}
 use Rattle.c0_stmt_code.proofs.ValuesStay.{Rest, region}
 
 -- what a scope has beside structs and globals
@@ -37,7 +37,7 @@ module _ (W E : Type 0) (Outer : W → Contents → Behind → Type 0) (z : Setu
   abbrev pub Exprs : Type 0
   Exprs = (objects : List Ty) (s : C0State) (g : Frame) (fs : List Frame) (f : CFunction) (live : ℕ → Bool) → s.frames ≡ g ∷ fs → slice_get z.p.unit.functions g.function ≡ Some f → IsTypedWith z.p.unit objects s → AreDeclared (shapes z.p.unit) objects
       → words_of_all (shapes z.p.unit) objects ≤ z.p.heap → stack_words z.p.unit (g ∷ fs) ≤ z.p.stack
-      → ExpressionsDo z.w (body_env (text W E Outer z) f) (scope W E Outer z f) (bases W E Outer z objects (g ∷ fs)) live s
+      → ExpressionsDo z.w (body_env (code_text W E Outer z) f) (scope W E Outer z f) (bases W E Outer z objects (g ∷ fs)) live s
 
   -- the state stands ready for the expressions of the function that runs
   pub ready : (objects : List Ty) (gv hv : Value) (hw : ℕ) (g : Frame) (fs : List Frame) (world : W) (calls : List (List E)) (answer : Option Value) (c : Contents) (d : Behind) (a : Activation)

@@ -10,7 +10,7 @@ use Rattle.c0_meaning.specs.Ty.{Ty, ty_of, named, is_scalar}
 use Rattle.c0_meaning.specs.Ty as ty
 use Rattle.c0_meaning.specs.Env.{Shape, typed_of}
 use Rattle.c0_meaning.specs.Limits.{words_of_frame}
-use Rattle.c0_meaning.specs.Words.{fields_named, words}
+use Rattle.c0_meaning.specs.Words.{shape_fields, words}
 use Rattle.c0_meaning.specs.Sizes.{words_before}
 use Rattle.c0_meaning.specs.Addresses.{words_to, words_to_part}
 use Rattle.c0_meaning.specs.Sound.{shapes}
@@ -24,11 +24,11 @@ use Rattle.c0_stmt_code.specs.Code.{calls_in}
 use Rattle.c0_stmt_code.specs.Setup.{Setup}
 use Rattle.c0_stmt_code.specs.Ahead.{Activation}
 use Rattle.c0_stmt_code.specs.Standing.{scope, bases, end_of, unit_scope, VariablesHeld, Waiting, FunctionRuns, UnderWay, ConfigurationStands}
-use Rattle.c0_stmt_code.proofs.Premises.{HeldStays, TypedStays}
+use Rattle.c0_stmt_code.proofs.PremisesFromBelow.{HeldStays, TypedStays}
 use Rattle.c0_stmt_code.proofs.ValuesStay.{region}
 use Rattle.c0_stmt_code.proofs.FunctionsUnderWay.{rest_of, standing_at}
-use Rattle.c0_stmt_code.proofs.Rooms.{frame_on, words_by_types, waiting_same}
-use Rattle.c0_stmt_code.proofs.Variables.{zero_zero, zeros_held, joined_held, scalars_words}
+use Rattle.c0_stmt_code.proofs.RegionsApart.{frame_on, words_by_types, waiting_same}
+use Rattle.c0_stmt_code.proofs.VariablesBegin.{zero_zero, zeros_held, joined_held, scalars_words}
 use Rattle.c0_stmt_code.proofs.RegisterFrames.{each_scalar}
 
 -- types and one more behind them
@@ -82,7 +82,7 @@ module _ (structs : List Shape) where
   parts_count lay objects (at l) h = absurd h
 
 module _ (W E : Type 0) (Outer : W → Contents → Behind → Type 0) (z : Setup W E Outer) (held : HeldStays (shapes z.p.unit)) (typing : TypedStays z.p.unit)
-    (opened : (x : List ℕ) → words (shapes z.p.unit) (named x) ≡ words_of_all (shapes z.p.unit) (types_of (fields_named (shapes z.p.unit) x))) (objects : List Ty) where
+    (opened : (x : List ℕ) → words (shapes z.p.unit) (named x) ≡ words_of_all (shapes z.p.unit) (types_of (shape_fields (shapes z.p.unit) x))) (objects : List Ty) where
   -- the variables that registers hold are few
   few_words : (f : CFunction) → (scope W E Outer z f).in_registers ≡ true → words_of_all (shapes z.p.unit) (variable_types f) ≤ 8
   few_words f form =

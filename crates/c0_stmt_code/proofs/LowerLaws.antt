@@ -10,9 +10,9 @@ use Rattle.c0_meaning.specs.Ty as ty
 use Rattle.c0_meaning.specs.Env.{Shape, typed_of}
 use Rattle.c0_meaning.specs.Limits.{locals_of}
 use Rattle.c0_meaning.specs.Typed.{IsDeclarable}
-use Rattle.c0_meaning.specs.Words.{fields_named, words}
+use Rattle.c0_meaning.specs.Words.{shape_fields, words}
 use Rattle.c0_meaning.specs.Sizes.{words_before}
-use Rattle.c0_meaning.specs.Addresses.{type_at, words_to, words_to_part}
+use Rattle.c0_meaning.specs.Addresses.{nth_type, words_to, words_to_part}
 use Rattle.c0_meaning.specs.Sound.{shapes}
 use Rattle.c0_meaning.specs.Value.{Region, globals, heap, locals, Location, Value, int, bool, null, at, Values, empty, part, group, followed_by, with_part, zero_of, zeros_of, value_with}
 use Rattle.c0_meaning.specs.State.{Frame, C0State, write}
@@ -20,7 +20,7 @@ use Rattle.c0_meaning.specs.TypedState.{types_of, PathLeads, LeadsFrom, Fits, Al
 use Rattle.c0_expr_code.specs.Scope.{Scope}
 use Rattle.c0_expr_code.specs.Bases.{Bases, words_of_all, word_of_scalar, RegionHeld}
 use Rattle.c0_expr_code.specs.Laws as below
-use Rattle.c0_stmt_code.proofs.Premises.{HeldStays, TypedStays, LengthsFit, types_for}
+use Rattle.c0_stmt_code.proofs.PremisesFromBelow.{HeldStays, TypedStays, LengthsFit, types_for}
 
 pub lengths_fit : below.CodesAreShort → (sc : Scope) → LengthsFit sc
 lengths_fit h sc = record { value = h.value sc; value_some = h.some sc; operand = h.operand sc; place = h.place sc; test = h.test sc; test_some = h.test_some sc; test_same = λ e s far r. h.same sc e s far 0 r }
@@ -37,16 +37,16 @@ module _ (structs : List Shape) (opened : below.IsOpened structs) where
   times (suc n) zero w lt = omega arith
   times (suc n) (suc i) w lt = let r = times n i w (omega (arith, lt)) in omega (arith, r)
 
-  at_number : (types : List Ty) (i : ℕ) (t : Ty) → slice_get types i ≡ Some t → type_at types i ≡ t
+  at_number : (types : List Ty) (i : ℕ) (t : Ty) → slice_get types i ≡ Some t → nth_type types i ≡ t
   at_number types i t e = ap (λ o. unwrap_or o ty.int) e
 
   room : (t : Ty) (path : List ℕ) (u : Ty) → PathLeads structs t path u → words_to structs t path + words structs u ≤ words structs t
   room t [] u l = let w = ap (words structs) l in omega (arith, w)
   room (ty.named x) (i ∷ path) u l =
       let r = room l.0 path u l.2 in
-      let b = before_room (types_of (fields_named structs x)) i l.0 l.1 in
+      let b = before_room (types_of (shape_fields structs x)) i l.0 l.1 in
       let o = opened x in
-      let s = ap (λ v. words_to structs v path) (at_number (types_of (fields_named structs x)) i l.0 l.1) in
+      let s = ap (λ v. words_to structs v path) (at_number (types_of (shape_fields structs x)) i l.0 l.1) in
       omega (arith, r, b, o, s)
   room (ty.array t n) (i ∷ path) u l = let r = room t path u l.1 in let b = times n i (words structs t) l.0 in omega (arith, r, b)
   room ty.int (i ∷ path) u l = absurd l

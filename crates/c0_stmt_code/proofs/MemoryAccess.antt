@@ -10,7 +10,7 @@ use Rattle.mips_table.specs.Code.{put, put_reg, Contents, reg, with_reg, Behind,
 use Rattle.masm.specs.Says.{Gives, Writes}
 use Rattle.masm.specs.Laws.{RunsCompose, StraightRuns}
 use Rattle.c0_expr_code.specs.Code.{AddressingMode, is_near, low, high, access_code}
-use Rattle.c0_stmt_code.proofs.Blocks.{front, back}
+use Rattle.c0_stmt_code.proofs.WorkAsCode.{front, back}
 
 -- registers that are written, and the others
 pub same_reg : (g : ℕ → ℕ) (d v : ℕ) → d ≢ 0 → put_reg g d v d ≡ v

@@ -11,9 +11,9 @@ use Rattle.masm.specs.Laws.{RunsCompose, StraightRuns}
 use Rattle.c0_meaning.specs.Ty.{Ty, is_scalar}
 use Rattle.c0_expr_code.specs.Code.{register_of_variable}
 use Rattle.c0_stmt_code.specs.Code.{clear_one, clear_code}
-use Rattle.c0_stmt_code.proofs.Blocks.{front, back}
-use Rattle.c0_stmt_code.proofs.Premises.{AllScalar}
-use Rattle.c0_stmt_code.proofs.Rooms.{put_same, put_other}
+use Rattle.c0_stmt_code.proofs.WorkAsCode.{front, back}
+use Rattle.c0_stmt_code.proofs.PremisesFromBelow.{AllScalar}
+use Rattle.c0_stmt_code.proofs.RegionsApart.{put_same, put_other}
 use Rattle.c0_stmt_code.proofs.MemoryAccess.{same_reg, other_reg, read_is}
 
 pub each_scalar : (ts : List Ty) → list_all is_scalar ts ≡ true → AllScalar ts

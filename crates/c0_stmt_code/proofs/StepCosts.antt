@@ -17,8 +17,8 @@ use Rattle.c0_meaning.specs.World.{Setting, Cost, units, total, plus, Configurat
 use Rattle.c0_meaning.specs.Running.{Target, into, outward, Work, act_on, finish, again, leave, begin, Step, then_go, store, deliver, enter, call_function, call_with, allocate, test_loop, act_statement, work_step}
 use Rattle.c0_stmt_code.specs.Setup.{Setup}
 use Rattle.c0_stmt_code.specs.Ahead.{Activation, Awaits, Ahead}
-use Rattle.c0_stmt_code.specs.Standing.{text, Simulated, CostsSome}
-use Rattle.c0_stmt_code.proofs.Costs.{Within, value_within, place_within, truth_within, values_within}
+use Rattle.c0_stmt_code.specs.Standing.{code_text, Simulated, CostsSome}
+use Rattle.c0_stmt_code.proofs.UnitsWithinNodes.{Within, value_within, place_within, truth_within, values_within}
 
 module _ (W E : Type 0) (p : Setting W E) (h : Configuration W E) where
   either : (b : Bool) (x y : Step W E) → CostsSome h x → CostsSome h y → CostsSome h (if b then x else y)
@@ -40,7 +40,7 @@ module _ (W E : Type 0) (p : Setting W E) (h : Configuration W E) where
 
   enter_some : (cost : Cost) (n : ℕ) (body : CBody) (args : Values) (target : Target) (work : List Work) → 1 ≤ cost.own → cost.primitive ≡ 0 → CostsSome h (enter p cost n body args target work h)
   enter_some cost n (code locals stmts answer) args target work some none = (omega (arith, some), inl (omega (arith, none)))
-  enter_some cost n (asm text span words) args target work some none = deliver_some (plus cost (units (length words))) target _ work h (omega (arith, some)) (inl (omega (arith, none)))
+  enter_some cost n (asm code_text span words) args target work some none = deliver_some (plus cost (units (length words))) target _ work h (omega (arith, some)) (inl (omega (arith, none)))
 
   function_some : (cost : Cost) (n : ℕ) (args : Values) (target : Target) (work : List Work) → cost.primitive ≡ 0 → total cost ≤ 8000000 → CostsSome h (call_function p cost n args target work h)
   function_some cost n args target work none few =
@@ -78,19 +78,19 @@ module _ (W E : Type 0) (p : Setting W E) (h : Configuration W E) where
 
 module _ (W E : Type 0) (Outer : W → Contents → Behind → Type 0) (z : Setup W E Outer) where
   -- what stands ahead has few nodes
-  statement_few : (acts : List Activation) (k debt : ℕ) (t : CStmt) (rest : CStmts) (work : List Work) → Ahead (text W E Outer z) acts k debt (act_on t rest ∷ work) → stmt_nodes t ≤ 2000
+  statement_few : (acts : List Activation) (k debt : ℕ) (t : CStmt) (rest : CStmts) (work : List Work) → Ahead (code_text W E Outer z) acts k debt (act_on t rest ∷ work) → stmt_nodes t ≤ 2000
   statement_few (a ∷ others) k debt t rest work ahead = ahead.0.few
   statement_few [] k debt t rest work ahead = absurd ahead
 
-  loop_few : (acts : List Activation) (k debt : ℕ) (t : CExpr) (body rest : CStmts) (work : List Work) → Ahead (text W E Outer z) acts k debt (again t body rest ∷ work) → nodes t ≤ 2000
+  loop_few : (acts : List Activation) (k debt : ℕ) (t : CExpr) (body rest : CStmts) (work : List Work) → Ahead (code_text W E Outer z) acts k debt (again t body rest ∷ work) → nodes t ≤ 2000
   loop_few (a ∷ others) k debt t body rest work ahead = let few = ahead.1.few in omega (arith, few)
   loop_few [] k debt t body rest work ahead = absurd ahead
 
-  return_few : (acts : List Activation) (k debt : ℕ) (answer : CExpr) (target : Target) (work : List Work) → Ahead (text W E Outer z) acts k debt (leave answer target ∷ work) → nodes answer ≤ 2000
+  return_few : (acts : List Activation) (k debt : ℕ) (answer : CExpr) (target : Target) (work : List Work) → Ahead (code_text W E Outer z) acts k debt (leave answer target ∷ work) → nodes answer ≤ 2000
   return_few (a ∷ others) k debt answer target work ahead = ahead.0.few
   return_few [] k debt answer target work ahead = absurd ahead
 
-  place_few : (acts : List Activation) (k debt : ℕ) (t : Ty) (place : CExpr) (rest : CStmts) (work : List Work) → Awaits (text W E Outer z) acts k debt t (into place rest) work (λ others to left. Ahead (text W E Outer z) others to left work) → nodes place ≤ 2000
+  place_few : (acts : List Activation) (k debt : ℕ) (t : Ty) (place : CExpr) (rest : CStmts) (work : List Work) → Awaits (code_text W E Outer z) acts k debt t (into place rest) work (λ others to left. Ahead (code_text W E Outer z) others to left work) → nodes place ≤ 2000
   place_few (a ∷ others) k debt t place rest work ahead = ahead.0.few
   place_few [] k debt t place rest work ahead = absurd ahead
 

@@ -16,11 +16,11 @@ use Rattle.c0_expr_code.specs.Relation.{KeepsRegisters, Evaluates, Splits}
 use Rattle.c0_stmt_code.specs.Setup.{Setup}
 use Rattle.c0_stmt_code.specs.Journey.{RunStopped}
 use Rattle.c0_stmt_code.specs.Ahead.{Activation, Block, Ahead, AllAreLive}
-use Rattle.c0_stmt_code.proofs.Liveness.{AreLiveBehind, pushed_live}
-use Rattle.c0_stmt_code.specs.Standing.{text, scope, bases, unit_scope, UnderWay, ConfigurationStands, Simulated, AtExit, IsGone, StepIs}
-use Rattle.c0_stmt_code.proofs.RunStretches.{Way, on, of, away, within}
-use Rattle.c0_stmt_code.proofs.Costs.{Within}
-use Rattle.c0_stmt_code.proofs.Blocks.{taken, behind}
+use Rattle.c0_stmt_code.proofs.LiveAroundSteps.{AreLiveBehind, pushed_live}
+use Rattle.c0_stmt_code.specs.Standing.{code_text, scope, bases, unit_scope, UnderWay, ConfigurationStands, Simulated, AtExit, IsGone, StepIs}
+use Rattle.c0_stmt_code.proofs.RunStretches.{Stretch, on, of, away, within}
+use Rattle.c0_stmt_code.proofs.UnitsWithinNodes.{Within}
+use Rattle.c0_stmt_code.proofs.WorkAsCode.{taken, behind}
 
 module _ (W E : Type 0) (Outer : W → Contents → Behind → Type 0) (z : Setup W E Outer) where
   -- what a step comes to that calls no primitive
@@ -37,7 +37,7 @@ module _ (W E : Type 0) (Outer : W → Contents → Behind → Type 0) (z : Setu
 
 module _ (runs : RunLaws) (compose : RunsCompose) (W E : Type 0) (Outer : W → Contents → Behind → Type 0) (z : Setup W E Outer) (jumps : JumpsLead z.w) where
   abbrev pub Path : (least most : ℕ) → CodeState → CodeState → Type 0
-  Path l n s t = Way runs z.w l n s t
+  Path l n s t = Stretch runs z.w l n s t
 
   abbrev pub Standing : List Ty → Configuration W E → Contents → Behind → Type 0
   Standing objects h c d = ConfigurationStands W E Outer z objects h c d
@@ -65,7 +65,7 @@ module _ (runs : RunLaws) (compose : RunsCompose) (W E : Type 0) (Outer : W → 
 
   -- what is left to do stands, where it stands ahead
   pub simulated : (debt : ℕ) (work : List Work) (h : Configuration W E) (k : ℕ) (c : Contents) (d : Behind) (objects : List Ty) (a : Activation) (others : List Activation) → Standing objects h c d
-      → UnderWay W E Outer z objects c (a ∷ others) h.state.frames → Ahead (text W E Outer z) (a ∷ others) k debt work → AllAreLive (a ∷ others) work → Simulated W E Outer z debt work h (at_with k c d)
+      → UnderWay W E Outer z objects c (a ∷ others) h.state.frames → Ahead (code_text W E Outer z) (a ∷ others) k debt work → AllAreLive (a ∷ others) work → Simulated W E Outer z debt work h (at_with k c d)
   simulated debt [] h k c d objects a others st under there live = absurd there
   simulated debt (act_on t rest ∷ work) h k c d objects a others st under there live = record { objects = objects; stands = st; activations = a ∷ others; under_way = under; ahead = there; live = live }
   simulated debt (again t body rest ∷ work) h k c d objects a others st under there live = record { objects = objects; stands = st; activations = a ∷ others; under_way = under; ahead = there; live = live }
@@ -76,9 +76,9 @@ module _ (runs : RunLaws) (compose : RunsCompose) (W E : Type 0) (Outer : W → 
   -- a step is done where the next statements stand
   pub arrives : (l n debt debt' : ℕ) (cost : Cost) (h h' : Configuration W E) (s : CodeState) (k : ℕ) (c : Contents) (d : Behind) (objects : List Ty) (a : Activation) (others : List Activation) (rest : CStmts) (work : List Work)
       → Path l n s (at_with k c d) → cost.own ≤ 2048 * l → n + debt' ≤ 30 * cost.own + debt → calls_ended h' ≡ calls_ended h → Standing objects h' c d → UnderWay W E Outer z objects c (a ∷ others) h'.state.frames
-      → Block (text W E Outer z) a.function k debt' rest (λ to left. Ahead (text W E Outer z) (a ∷ others) to left work) → AreLiveBehind a.live others rest work → GoesOn W E Outer z debt h s (Go cost (push rest work) h')
+      → Block (code_text W E Outer z) a.function k debt' rest (λ to left. Ahead (code_text W E Outer z) (a ∷ others) to left work) → AreLiveBehind a.live others rest work → GoesOn W E Outer z debt h s (Go cost (push rest work) h')
   arrives l n debt debt' cost h h' s k c d objects a others rest work path low high en st under block live =
-      let b = behind (text W E Outer z) a others k debt' rest work block in
+      let b = behind (code_text W E Outer z) a others k debt' rest work block in
       let owed : debt' ≡ b.count + b.left = b.owed in
       let go = taken runs compose z.w jumps b.count k b.to c d st.idle b.skips in
       let way = within runs z.w (l + 0) (n + b.count) l (n + b.count) s (at_with b.to c d) (omega arith) (omega arith) (on runs z.w l n 0 b.count s (at_with k c d) (at_with b.to c d) path go) in

@@ -4,7 +4,7 @@ use Rattle.std.proofs.Common.{◌≡◌, ℕ, ◌+◌, ◌*◌, Bool, List, [], 
 use Rattle.c0_meaning.specs.Ty.{Ty}
 use Rattle.c0_meaning.specs.Ty as ty
 use Rattle.c0_meaning.specs.Env.{Typed, Shape, Signature}
-use Rattle.c0_meaning.specs.Words.{fields_named, words}
+use Rattle.c0_meaning.specs.Words.{shape_fields, words}
 use Rattle.c0_meaning.specs.Addresses.{words_to_part}
 use Rattle.c0_meaning.specs.Value.{Region, globals, heap, locals, Value, int, bool, null, at, group, Values, empty, part}
 use Rattle.c0_meaning.specs.Operators.{KernelFault}
@@ -58,7 +58,7 @@ module _ (structs : List Shape) (gs : List Typed) (g h : ℕ) (objects objects' 
     held m a ty.bool (bool b) k i = i
     held m a (ty.pointer t) null k i = i
     held m a (ty.pointer t) (at l) k i = i ∙ sym (ap (λ n. 4 * n) (place_same l.region l.path t k))
-    held m a (ty.named n) (group vs) k i = all_held m a (types_of (fields_named structs n)) vs k i
+    held m a (ty.named n) (group vs) k i = all_held m a (types_of (shape_fields structs n)) vs k i
     held m a (ty.array t n) (group vs) k i = all_held m a (replicate n t) vs k i
     held m a _ _ k i = absurd k
 

@@ -22,17 +22,17 @@ use Rattle.c0_expr_code.specs.Bases.{Bases, types_in, location_word, word_of_sca
 use Rattle.c0_expr_code.specs.Relation.{Evaluates, Ready, KeepsRegisters, HoldsAddress, Source, nought, its, far}
 use Rattle.c0_stmt_code.specs.Setup.{Setup}
 use Rattle.c0_stmt_code.specs.Ahead.{Activation, body_env, Block, Ahead}
-use Rattle.c0_stmt_code.specs.Standing.{text, scope, bases, Waiting, FunctionRuns, ConfigurationStands}
-use Rattle.c0_stmt_code.proofs.Premises.{ExpressionsDo, HeldStays, TypedStays, types_for}
+use Rattle.c0_stmt_code.specs.Standing.{code_text, scope, bases, Waiting, FunctionRuns, ConfigurationStands}
+use Rattle.c0_stmt_code.proofs.PremisesFromBelow.{ExpressionsDo, HeldStays, TypedStays, types_for}
 use Rattle.c0_expr_code.specs.Reads.{reads_to_find}
 use Rattle.c0_stmt_code.specs.Live.{is_variable}
-use Rattle.c0_stmt_code.proofs.Blocks.{or_left}
-use Rattle.c0_stmt_code.proofs.Liveness.{AreLiveAtPlace, behind_place, later, live_later, grown_at, found_variable, with_live, block_with}
+use Rattle.c0_stmt_code.proofs.WorkAsCode.{or_left}
+use Rattle.c0_stmt_code.proofs.LiveAroundSteps.{AreLiveAtPlace, behind_place, later, live_later, grown_at, found_variable, with_live, block_with}
 use Rattle.c0_stmt_code.proofs.RunStretches.{on, away}
-use Rattle.c0_stmt_code.proofs.Costs.{place_within}
+use Rattle.c0_stmt_code.proofs.UnitsWithinNodes.{place_within}
 use Rattle.c0_stmt_code.proofs.MemoryAccess.{access_front, access_longer, place_steps, few_steps, writes}
 use Rattle.c0_stmt_code.proofs.FunctionsUnderWay.{state_of, standing_at, Exprs, ready}
-use Rattle.c0_stmt_code.proofs.Stores.{in_data, stored}
+use Rattle.c0_stmt_code.proofs.ScalarStored.{in_data, stored}
 use Rattle.c0_stmt_code.proofs.StepSimulation.{GoesOn, Path, arrives, then_comes}
 
 pub source_not_one : (r q : ℕ) → 8 ≤ r → Source r q → q ≢ 1
@@ -74,7 +74,7 @@ module _ (runs : RunLaws) (compose : RunsCompose) (W E : Type 0) (Outer : W → 
   here = standing_at gv hv hw (g ∷ fs) world calls answer
 
   -- the expressions of the function that runs
-  pub its_exprs : ExpressionsDo z.w (body_env (text W E Outer z) a.function) sc (bases W E Outer z objects (g ∷ fs)) a.live (state_of gv hv hw (g ∷ fs))
+  pub its_exprs : ExpressionsDo z.w (body_env (code_text W E Outer z) a.function) sc (bases W E Outer z objects (g ∷ fs)) a.live (state_of gv hv hw (g ∷ fs))
   its_exprs = let u = st.used in let o = st.room in exprs objects (state_of gv hv hw (g ∷ fs)) g fs a.function a.live refl r.is st.typed st.declared (omega (arith, u, o)) st.stack_room
 
   pub its_ready : Ready sc (bases W E Outer z objects (g ∷ fs)) a.live (state_of gv hv hw (g ∷ fs)) c
@@ -84,9 +84,9 @@ module _ (runs : RunLaws) (compose : RunsCompose) (W E : Type 0) (Outer : W → 
   pub store_in : (n debt debt' free q k : ℕ) (cost : Cost) (h0 : Configuration W E) (s : CodeState) (p : CExpr) (t : Ty) (v : Value) (rest : CStmts) (work : List Work)
       → Path runs compose W E Outer z jumps 0 n s (at_with k c d) → n + 3 + debt' ≤ 30 * cost.own + 14 + debt → n ≤ 30 * cost.own + debt → cost.own + nodes p ≤ 2048 → nodes p ≤ 2000 → length calls ≡ calls_ended h0 → 8 ≤ free → free + need p ≤ 20 → free < 20
       → q ≢ 1 → q ≢ free → ((b : Contents) → KeepsRegisters free free c b → reg b.regs q ≡ reg c.regs q) → reg c.regs q ≡ word_of_scalar sc (bases W E Outer z objects (g ∷ fs)) v
-      → Fits (shapes z.p.unit) (store_typing z.p.unit objects) t v → IsNumberedLeft (body_env (text W E Outer z) a.function) p t → (made sc p).stands ≡ None
+      → Fits (shapes z.p.unit) (store_typing z.p.unit objects) t v → IsNumberedLeft (body_env (code_text W E Outer z) a.function) p t → (made sc p).stands ≡ None
       → CodeAt z.w k (access_code (λ y x. Sw q y x) free ((made sc p).place free))
-      → Block (text W E Outer z) a.function (k + length (access_code (λ y x. Sw q y x) free ((made sc p).place free))) debt' rest (λ to left. Ahead (text W E Outer z) (a ∷ others) to left work)
+      → Block (code_text W E Outer z) a.function (k + length (access_code (λ y x. Sw q y x) free ((made sc p).place free))) debt' rest (λ to left. Ahead (code_text W E Outer z) (a ∷ others) to left work)
       → AreLiveAtPlace a.live others p rest work
       → GoesOn W E Outer z debt h0 s (store cost p v rest work here)
   store_in n debt debt' free q k cost h0 s p t v rest work path high early low few en lo need_fits hi qz qr kept holds fits left stands code block live =
@@ -113,5 +113,5 @@ module _ (runs : RunLaws) (compose : RunsCompose) (W E : Type 0) (Outer : W → 
       (wrote.1.memory ∙ ap (λ m. put_word m at its) found.keeps.memory)
       (later a.live p) (λ n y. grown_at (is_variable p n) (a.live n) y (λ v. located l n (found_variable p here.state there.units l n there.is v))) in
       arrives runs compose W E Outer z jumps (0 + 1) (n + (0 + 16 * u) + 3) debt debt' (plus cost (units u)) h0 (with_state here (write here.state l v)) s (k + length (access_code (λ y x. Sw q y x) free x)) wrote.0 d objects (with_live a (later a.live p)) others rest work way
-      (omega (arith, low, most)) (omega (arith, high, least)) (omega (arith, en)) done.0 done.1 (block_with (text W E Outer z) a others (later a.live p) (k + length (access_code (λ y x. Sw q y x) free x)) debt' rest work block)
+      (omega (arith, low, most)) (omega (arith, high, least)) (omega (arith, en)) done.0 done.1 (block_with (code_text W E Outer z) a others (later a.live p) (k + length (access_code (λ y x. Sw q y x) free x)) debt' rest work block)
       ((λ n y. live_later a.live p n (behind_place (reads_to_find p n) (is_variable p n) _ y) (live.0 n)), live.1))

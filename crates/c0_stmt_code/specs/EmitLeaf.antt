@@ -13,11 +13,12 @@ use Rattle.c0_meaning.specs.Limits.{locals_of}
 use Rattle.c0_meaning.specs.Unit.{IsWellFormed}
 use Rattle.c0_meaning.specs.Words.{all_words}
 use Rattle.c0_expr_code.specs.declared.address.Access.{Access}
+use Rattle.c0_expr_code.specs.declared.scene.Scene.{Scene}
 use Rattle.c0_expr_code.specs.Code.{access_code}
 use Rattle.c0_expr_code.specs.Emit.{access_inst}
-use Rattle.c0_expr_code.specs.Scene.{HasNumbers}
+use Rattle.c0_expr_code.specs.Scene.{HasNumbers, scope_in}
 use Rattle.c0_expr_code.specs.Scope.{Scope, scope_of}
-use Rattle.c0_stmt_code.specs.Code.{frame_slot}
+use Rattle.c0_stmt_code.specs.Code.{frame_slot, register_entry, entry_code}
 use Rattle.c0_stmt_code.specs.Live.{is_cleared}
 
 -- an expression whose variables and fields there are, and that needs at most so many registers
@@ -33,11 +34,18 @@ kept_code sc access calling = if calling then access_code (access_inst access RE
 abbrev pub cleared_in : Code → ℕ → Bool
 cleared_in body = is_cleared (map decl_view body.locals.items) (stmts_view body.stmts.items) (expr_view body.answer)
 
+-- the code of the begin of a function whose variables stand in registers, and of any function
+abbrev pub register_entry_in : Scene → Code → (params : ℕ) → (calling : Bool) → List Inst
+register_entry_in scene body params calling = register_entry (scope_in scene) (cleared_in body) params (length body.locals.items) calling
+
+abbrev pub entry_in : Scene → Code → (params : ℕ) → (calling : Bool) → List Inst
+entry_in scene body params calling = entry_code (scope_in scene) (cleared_in body) params (map decl_view body.locals.items) calling
+
 -- a frame has three words of its own, one for each parameter, and those of the locals
-abbrev pub HasFrame : Scope → (params : ℕ) → List CDecl → Type 0
-HasFrame sc params locals = sc.frame ≡ all_words sc.env.structs (map typed_of locals) + 3 + params
+abbrev pub HasFrameWords : Scope → (params : ℕ) → List CDecl → Type 0
+HasFrameWords sc params locals = sc.frame ≡ all_words sc.env.structs (map typed_of locals) + 3 + params
 
 -- a law: the frame of each function of a well formed unit is so
 abbrev pub FramesAreThose : Type 0
 FramesAreThose = (primitives : List CPrimitive) (u : CUnit) (n : ℕ) (f : CFunction) (addresses : CodeAddresses) → IsWellFormed primitives u
-    → slice_get u.functions n ≡ Some f → HasFrame (scope_of u f addresses) (length f.params) (locals_of f.body)
+    → slice_get u.functions n ≡ Some f → HasFrameWords (scope_of u f addresses) (length f.params) (locals_of f.body)

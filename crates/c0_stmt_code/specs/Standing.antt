@@ -39,7 +39,7 @@ IsPrimitiveCall h item number values = ⊥
 
 module _ (W E : Type 0) (Outer : W → Contents → Behind → Type 0) (z : Setup W E Outer) where
   -- what is the same for all functions
-  abbrev pub text : Text
+  abbrev pub code_text : Text
   text = record { w = z.w; table = z.table; unit = z.p.unit; scope = λ f. scope_of z.p.unit f z.addresses; links = links_of z.addresses; back = z.a.back }
 
   abbrev pub scope : CFunction → Scope
@@ -116,7 +116,7 @@ module _ (W E : Type 0) (Outer : W → Contents → Behind → Type 0) (z : Setu
     pub stands : ConfigurationStands objects h s.contents s.behind
     pub activations : List Activation
     pub under_way : UnderWay objects s.contents activations h.state.frames
-    pub ahead : Ahead text activations s.at debt work
+    pub ahead : Ahead code_text activations s.at debt work
     pub live : AllAreLive activations work
 
   -- an answer stands in register 2, and its place is found next
@@ -128,7 +128,7 @@ module _ (W E : Type 0) (Outer : W → Contents → Behind → Type 0) (z : Setu
     pub t : Ty
     pub fits : Fits (shapes z.p.unit) (store_typing z.p.unit objects) t v
     pub answer : s.contents.regs 2 ≡ word_of_value objects v
-    pub ahead : Awaits text activations s.at debt t target work (λ others to left. Ahead text others to left work)
+    pub ahead : Awaits code_text activations s.at debt t target work (λ others to left. Ahead code_text others to left work)
     pub live : AnswerIsLive activations target work (λ below. WaitingAreLive below work)
 
   -- a function is entered, with its arguments in registers and its return address in register 31
@@ -140,12 +140,12 @@ module _ (W E : Type 0) (Outer : W → Contents → Behind → Type 0) (z : Setu
     pub frame_at : s.contents.regs 29 ≡ 4 * end_of h.state.frames
     pub function : CFunction
     pub is : slice_get z.p.unit.functions n ≡ Some function
-    pub at : s.at ≡ text.links.function n
+    pub at : s.at ≡ code_text.links.function n
     pub to : ℕ
     pub return_at : s.contents.regs 31 ≡ 4 * to
     pub fits : AllFit (shapes z.p.unit) (store_typing z.p.unit objects) (types_of (map typed_of function.params)) args
     pub arguments : AreIn (unit_scope z.p.unit) (bases objects []) s.contents.regs 20 args
-    pub ahead : Awaits text activations to debt (ty_of function.answer) target work (λ others to left. Ahead text others to left work)
+    pub ahead : Awaits code_text activations to debt (ty_of function.answer) target work (λ others to left. Ahead code_text others to left work)
 
   -- the first function has returned with its answer
   pub record Ended (h : Configuration W E) (s : CodeState) : Type 0 where
@@ -190,7 +190,7 @@ module _ (W E : Type 0) (Outer : W → Contents → Behind → Type 0) (z : Setu
     pub high : own ≤ 30 * cost.own
     pub low : cost.own ≤ 2048 * own
     pub run : Steps z.w own s entry
-    pub called : PrimitiveIsCalled z.w text.links row number args to entry
+    pub called : PrimitiveIsCalled z.w code_text.links row number args to entry
     pub outer : Outer h.world entry.contents entry.behind
     pub room : entry.contents.memory 1026 ≤ z.p.heap
     pub units : cost.primitive ≡ (call_cost (z.p.meaning number args h.world)).primitive

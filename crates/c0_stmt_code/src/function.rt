@@ -10,7 +10,7 @@ ghost use Rattle.c0_expr_code.specs.Layout.{OfFunction, unit_of};
 ghost use Rattle.c0_expr_code.specs.Scene.{scope_in};
 ghost use Rattle.c0_stmt_code.specs.Code.{asm_function, body_code, links_of, return_code};
 ghost use Rattle.c0_stmt_code.specs.Emit.{AreEmittable, IsEmittableBody, function_at, function_in};
-ghost use Rattle.c0_stmt_code.specs.EmitLeaf.{CanStand, HasFrame};
+ghost use Rattle.c0_stmt_code.specs.EmitLeaf.{CanStand, HasFrameWords};
 
 use crate::calling::are_calling;
 use crate::emit_laws::functions_are_emittable;
@@ -47,7 +47,7 @@ fn emit_code(
     code: &mut Vec<u32>,
 ) -> Result<(), AllocError>
     requires addresses { AreCodeAddresses addresses.now }
-    requires frame { HasFrame (scope_in scene.now) params (map decl_view body.now.locals.items) }
+    requires frame { HasFrameWords (scope_in scene.now) params (map decl_view body.now.locals.items) }
     requires stmts { AreEmittable (scope_in scene.now).env (stmts_view body.now.stmts.items) }
     requires answer { CanStand (scope_in scene.now).env 12 (expr_view body.now.answer) }
     ensures { Appends code.old.items code.new.items (function_in scene.now addresses.now params body.now) result }
@@ -86,7 +86,7 @@ fn emit_body(
     code: &mut Vec<u32>,
 ) -> Result<(), AllocError>
     requires addresses { AreCodeAddresses addresses.now }
-    requires frame { HasFrame (scope_in scene.now) params (locals_of (body_view body.now)) }
+    requires frame { HasFrameWords (scope_in scene.now) params (locals_of (body_view body.now)) }
     requires body { IsEmittableBody (scope_in scene.now).env params (body_view body.now) }
     ensures { Appends code.old.items code.new.items (body_code (scope_in scene.now) (links_of addresses.now) params (body_view body.now)) result }
 {

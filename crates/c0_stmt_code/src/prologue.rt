@@ -10,9 +10,9 @@ ghost use Rattle.c0_expr_code.specs.Code as expressions;
 ghost use Rattle.c0_expr_code.specs.Code.{access_code};
 ghost use Rattle.c0_expr_code.specs.Emit.{Appends, access_inst};
 ghost use Rattle.c0_expr_code.specs.Scene.{scope_in};
-ghost use Rattle.c0_stmt_code.specs.Code.{clear_code, clear_one, end_code, entry_code, exit_code, frame_entry, frame_return, frame_slot, large_code, locals_code};
-ghost use Rattle.c0_stmt_code.specs.Code.{params_code, register_entry, register_return, stack_test, zero_code, zeros_code, zeros_loop};
-ghost use Rattle.c0_stmt_code.specs.EmitLeaf.{FramesAreThose, HasFrame, cleared_in, kept_code};
+ghost use Rattle.c0_stmt_code.specs.Code.{clear_code, clear_one, end_code, exit_code, frame_entry, frame_return, frame_slot, large_code, locals_code};
+ghost use Rattle.c0_stmt_code.specs.Code.{params_code, register_return, stack_test, zero_code, zeros_code, zeros_loop};
+ghost use Rattle.c0_stmt_code.specs.EmitLeaf.{FramesAreThose, HasFrameWords, cleared_in, entry_in, kept_code, register_entry_in};
 
 use crate::live::is_cleared;
 use c0_expr_code::{Access, Address, Scene, emit, emit_access, frame_displacement};
@@ -332,7 +332,7 @@ fn emit_register_entry(
     calling: bool,
     code: &mut Vec<u32>,
 ) -> Result<(), AllocError>
-    ensures { Appends code.old.items code.new.items (register_entry (scope_in scene.now) (cleared_in body.now) params (length body.now.locals.items) calling) result }
+    ensures { Appends code.old.items code.new.items (register_entry_in scene.now body.now params calling) result }
 {
     emit_stack_test(scene, SCRATCH, code)?;
     emit_kept_behind(Access::Store, calling, code)?;
@@ -347,8 +347,8 @@ pub fn emit_entry(
     calling: bool,
     code: &mut Vec<u32>,
 ) -> Result<(), AllocError>
-    requires { HasFrame (scope_in scene.now) params (map decl_view body.now.locals.items) }
-    ensures { Appends code.old.items code.new.items (entry_code (scope_in scene.now) (cleared_in body.now) params (map decl_view body.now.locals.items) calling) result }
+    requires { HasFrameWords (scope_in scene.now) params (map decl_view body.now.locals.items) }
+    ensures { Appends code.old.items code.new.items (entry_in scene.now body.now params calling) result }
 {
     if scene.in_registers {
         return emit_register_entry(scene, params, body, calling, code);

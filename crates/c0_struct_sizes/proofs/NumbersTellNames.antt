@@ -11,8 +11,8 @@ use Rattle.c0_tree.specs.Tree.{CTy, int, bool, pointer, named, array, CDecl, CSt
 use Rattle.c0_meaning.specs.Ty as ty
 use Rattle.c0_meaning.specs.Ty.{ty_of}
 use Rattle.c0_meaning.specs.Env.{Shape, Typed, shape_of, typed_of, first_named, fields_of}
-use Rattle.c0_meaning.specs.Words.{is_made_of, fields_named, have_field, has_field_of, StructHolds, by_field, by_part, words, all_words, WordsAreThose}
-use Rattle.c0_meaning.proofs.Capped.{capped_product}
+use Rattle.c0_meaning.specs.Words.{is_made_of, shape_fields, have_field, has_field_of, StructHolds, by_field, by_part, words, all_words, WordsAreThose}
+use Rattle.c0_meaning.proofs.CappedProducts.{capped_product}
 use Rattle.c0_name_check.specs.Names.{number_named}
 use Rattle.c0_meaning.specs.Sizes.{WORDS_CAP}
 use Rattle.c0_name_check.specs.Structs.{listed_words, capped_words}
@@ -113,7 +113,7 @@ parts_name number (d ∷ rest) j h =
     ]
 
 -- what has no fields holds nothing
-pub nothing_held : {shapes : List Shape} {a b : List ℕ} → StructHolds shapes a b → fields_named shapes a ≡ [] → ⊥
+pub nothing_held : {shapes : List Shape} {a b : List ℕ} → StructHolds shapes a b → shape_fields shapes a ≡ [] → ⊥
 nothing_held (by_field {owner} {x} h) none = false≢true (subst (λ (fs : List Typed). have_field fs x ≡ true) none h)
 nothing_held (by_part {owner} {part} {x} h rest) none = false≢true (subst (λ (fs : List Typed). have_field fs part ≡ true) none h)
 
@@ -124,7 +124,7 @@ module _ (number : List ℕ → Option ℕ) (structs : List CStruct) (told : Tel
   found : (text : List ℕ) (v : ℕ) → number text ≡ Some v → FoundAt structs text 0 v
   found text v e = found_at structs text 0 v (sym (told text) ∙ e)
 
-  pub named_fields : (text : List ℕ) (v : ℕ) → number text ≡ Some v → fields_named (map shape_of structs) text ≡ map typed_of (fields_at structs v)
+  pub named_fields : (text : List ℕ) (v : ℕ) → number text ≡ Some v → shape_fields (map shape_of structs) text ≡ map typed_of (fields_at structs v)
   named_fields text v e =
       let f = found text v e in
       let same : f.place ≡ v = omega arith in
@@ -139,7 +139,7 @@ module _ (number : List ℕ → Option ℕ) (structs : List CStruct) (told : Tel
   pub named_below : (text : List ℕ) (v : ℕ) → number text ≡ Some v → v < length structs
   named_below text v e = let f = found text v e in omega arith
 
-  pub unnamed_fields : (text : List ℕ) → number text ≡ None → fields_named (map shape_of structs) text ≡ []
+  pub unnamed_fields : (text : List ℕ) → number text ≡ None → shape_fields (map shape_of structs) text ≡ []
   unnamed_fields text e = no_fields (first_named (λ s. s.text) text 0 (map shape_of structs)) (sym (told text) ∙ e)
 
   -- edges lead to structs

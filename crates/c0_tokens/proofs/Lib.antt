@@ -1,5 +1,5 @@
 pub mod BlanksAndDigits
-pub mod Spelt
+pub mod SpellingFound
 pub mod TokensShorten
 pub mod NextTokens
 pub mod TokensEnd

@@ -8,7 +8,7 @@ use Rattle.c0_tokens.specs.Tokens.{fixed, faulty}
 use Rattle.c0_tokens.specs.Spelling.{Spelling, marks}
 use Rattle.c0_tokens.specs.Lexis.{Cut, mark_cut}
 use Rattle.c0_tokens.specs.Order.{CutsLongest}
-use Rattle.c0_tokens.proofs.Spelt.{both_left, both_right}
+use Rattle.c0_tokens.proofs.SpellingFound.{both_left, both_right}
 
 -- whether no spelling is longer than the one before it, nor the first longer than n
 abbrev falls : ℕ → List Spelling → Bool

@@ -9,7 +9,7 @@ use Rattle.c0_tokens.specs.Tokens.{CToken, fixed, faulty}
 use Rattle.c0_tokens.specs.declared.token.TokenFault.TheVariants.{BadByte}
 use Rattle.c0_tokens.specs.Spelling.{Spelling, marks}
 use Rattle.c0_tokens.specs.Lexis.{gap, Cut, longest_token, asm_cut, mark_cut, word_cut, number_cut, text_from_token, is_unclosed, is_asm_word, is_last, is_letter, is_digit, is_word_byte, is_close_brace, tokens_within}
-use Rattle.c0_tokens.proofs.Spelt.{mark_has_byte}
+use Rattle.c0_tokens.proofs.SpellingFound.{mark_has_byte}
 
 -- a run whose first byte passes leaves less of the text
 run_shorter : (p : ℕ → Bool) (a : ℕ) (rest : List ℕ) → p a ≡ true → length (drop (length (take (prefix_len p (a ∷ rest)) (a ∷ rest))) (a ∷ rest)) < length (a ∷ rest)

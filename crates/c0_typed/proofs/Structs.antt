@@ -14,7 +14,7 @@ use Rattle.c0_tree.specs.declared.tree.CType as rust
 use Rattle.c0_tree.specs.declared.tree.CType.TheFolds as folds
 use Rattle.c0_meaning.specs.Ty as ty
 use Rattle.c0_meaning.specs.Env.{Shape, Typed, first_named, shape_of, typed_of}
-use Rattle.c0_meaning.specs.Words.{words, fields_named}
+use Rattle.c0_meaning.specs.Words.{words, shape_fields}
 use Rattle.c0_meaning.specs.Resolved.{IsResolved}
 use Rattle.c0_meaning.specs.Sizes.{capped, struct_sizes}
 use Rattle.c0_meaning.specs.Sound.{IsSizedStruct, AreSized, shapes}
@@ -116,11 +116,11 @@ struct_words_are us x w sized r h =
 
 -- where its fields begin
 pub fields_begin : (us : List CStruct) (x : CName) (lists : List (List ℕ)) → AreSized us → IsResolved (map shape_of us) (named x) → lists ≡ map (struct_offsets (map shape_of us)) us
-    → get_or lists x.number [] ≡ offsets (map shape_of us) (types_of (fields_named (map shape_of us) x.text))
+    → get_or lists x.number [] ≡ offsets (map shape_of us) (types_of (shape_fields (map shape_of us) x.text))
 fields_begin us x lists sized r told =
     let s = struct_of us x r in
     let z = all_at (IsSizedStruct (map shape_of us)) us x.number s.at sized s.got in
-    let fields : map typed_of s.at.fields ≡ fields_named (map shape_of us) x.text = sym z.first ∙ ap (fields_named (map shape_of us)) s.same in
+    let fields : map typed_of s.at.fields ≡ shape_fields (map shape_of us) x.text = sym z.first ∙ ap (shape_fields (map shape_of us)) s.same in
     let list : get_or lists x.number [] ≡ struct_offsets (map shape_of us) s.at = ap (λ (l : List (List ℕ)). get_or l x.number []) told ∙ got_is _ x.number _ (mapped_at (struct_offsets (map shape_of us)) us x.number s.at s.got) in
     list ∙ ap (λ (ds : List Typed). offsets (map shape_of us) (types_of ds)) fields
   where

@@ -6,7 +6,7 @@ use Rattle.c0_meaning.specs.Env.{Env, env_of}
 use Rattle.c0_meaning.specs.Sound.{shapes}
 use Rattle.c0_meaning.specs.TypeAt.{env_in}
 use Rattle.c0_meaning.specs.TypedState.{types_of}
-use Rattle.c0_meaning.specs.Words.{fields_named}
+use Rattle.c0_meaning.specs.Words.{shape_fields}
 use Rattle.c0_typed.specs.declared.seen_unit.SeenUnit.{SeenUnit}
 use Rattle.c0_typed.specs.Typed.{begins}
 
@@ -21,4 +21,4 @@ env_at u None = env_of [] u []
 
 -- the words before the field of a number in the struct of a name
 abbrev pub words_to_field : CUnit → (owner : List ℕ) → ℕ → ℕ
-words_to_field u owner n = begins (shapes u) (types_of (fields_named (shapes u) owner)) n
+words_to_field u owner n = begins (shapes u) (types_of (shape_fields (shapes u) owner)) n

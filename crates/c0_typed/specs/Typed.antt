@@ -10,7 +10,7 @@ use Rattle.c0_tree.specs.Tree.{CExpr, num, true_, false_, null, var, field, arro
 use Rattle.c0_tree.specs.Tree as tree
 use Rattle.c0_meaning.specs.Ty.{Ty, named, array, is_scalar, ty_of}
 use Rattle.c0_meaning.specs.Env.{Env, Shape}
-use Rattle.c0_meaning.specs.Words.{fields_named, words}
+use Rattle.c0_meaning.specs.Words.{shape_fields, words}
 use Rattle.c0_meaning.specs.Expression as expression
 use Rattle.c0_meaning.specs.Limits.{words_of_frame}
 use Rattle.c0_meaning.specs.Offsets.{offsets}
@@ -45,7 +45,7 @@ typed_variable env kind.Primitive n = constant 0
 
 -- the types of the fields, where a type is a struct
 abbrev pub field_types : List Shape → Option Ty → List Ty
-field_types structs (Some (named x)) = types_of (fields_named structs x)
+field_types structs (Some (named x)) = types_of (shape_fields structs x)
 field_types structs _ = []
 
 -- the bytes before the field of a number, where a type is a struct, modulo 2 ^ 32

@@ -1,6 +1,6 @@
 pub mod DeclaredWords
 pub mod OneFunctionMore
 pub mod FlatRun
-pub mod Ordered
+pub mod FunctionsInOrder
 pub mod PartsStand
 pub mod UnitAddresses

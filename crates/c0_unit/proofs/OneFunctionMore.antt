@@ -20,7 +20,7 @@ use Rattle.c0_stmt_code.specs.Lengths.{FunctionsAreShort, LengthsAreFixed}
 use Rattle.c0_unit.specs.Code.{fault_exits, scope, no_links, functions_code, words_of_functions, lengths_of, functions_in, code_in, words_in, ordered_code, starts_from, starts_in_order, function_starts, routines_at, globals_start, unit_links, words_from}
 use Rattle.c0_unit.specs.Laws.{AreAddressesOf}
 use Rattle.c0_unit.proofs.UnitAddresses.{sum-cons, code_same, links_same, functions_length}
-use Rattle.c0_unit.proofs.Ordered.{range_more, code_join, words_join, range_few, ordered_length}
+use Rattle.c0_unit.proofs.FunctionsInOrder.{range_more, code_join, words_join, range_few, ordered_length}
 
 -- a unit that is well formed has few nodes
 pub few_nodes : UnitsAreFaultless → (table : List CPrimitive) (u : CUnit) → IsWellFormed table u → all_nodes u.functions ≤ 100000

@@ -29,7 +29,7 @@ use Rattle.c0_stmt_code.specs.Ranges.{AreNear, FunctionsAreInRange}
 use Rattle.c0_unit.specs.Code.{fault_exits, primitive_entries, routines_at, functions_at, scope, no_links, unit_links, functions_code, words_of_functions, lengths_of, ordered_code, starts_from, function_starts, globals_start, routines_code, unit_code}
 use Rattle.c0_unit.specs.Laws.{AreAddressesOf, StandsIn, UnitStands}
 use Rattle.c0_unit.proofs.OneFunctionMore.{few_nodes, are_places}
-use Rattle.c0_unit.proofs.Ordered.{starts_length, code_join, both_sum, ordered_length, stands_in_order, first_stands}
+use Rattle.c0_unit.proofs.FunctionsInOrder.{starts_length, code_join, both_sum, ordered_length, stands_in_order, first_stands}
 use Rattle.c0_unit.proofs.UnitAddresses.{IsPart, behind, before_more, code_same, links_same, words_few}
 
 place_at : (xs : List ℕ) (n : ℕ) → All IsJumpTarget xs → IsJumpTarget (slice_index xs n)

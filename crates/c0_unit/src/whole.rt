@@ -21,7 +21,8 @@ use masm::registers::CodeAddresses;
 use std::alloc::{AllocError, Global};
 use std::vec::Vec;
 
-// The addresses of a unit whose first function is that of the number `first`: all functions are emitted once without addresses, as no code's length hangs on them.
+// The addresses of a unit whose first function is that of the number `first`: all functions are emitted once without addresses,
+// as no code's length hangs on them.
 fn unit_addresses(
     alloc: Global,
     layout: &Layout<'_>,

@@ -1,3 +1,3 @@
-mod Calls
-mod Readers
-mod Pageless
+mod AllowedCallsKeep
+mod ReadersChangeNone
+mod PagelessTouchNone

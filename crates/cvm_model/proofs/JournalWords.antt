@@ -31,7 +31,7 @@ use Rattle.cvm_model.specs.Cvm.{System, Cvm, Status, Running, Halted, Faulted, I
 use Rattle.cvm_model.specs.Invariant.{Known, Shaped, UserShaped, RunsAreLawful, with_machine, machine_after}
 use Rattle.cvm_model.specs.Journal.{changes_of, begin_entries, running_entries, turn_entries, journal}
 use Rattle.cvm_model.specs.JournalWords.{holds_word, IsOrdinary, JournalsHoldWords}
-use Rattle.cvm_model.proofs.Isolation.{IsOf, next_is_user}
+use Rattle.cvm_model.proofs.JournalsReplay.{IsOf, next_is_user}
 use Rattle.cvm_model.proofs.KernelTyped.{is_small, are_small, signed_fits, small_fits, Told, told, answers_fit, safe_typed}
 
 -- A CALL: the entries that it makes

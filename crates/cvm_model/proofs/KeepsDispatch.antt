@@ -1,4 +1,4 @@
--- From code that is done to a dispatch that keeps a property: so the rules for code (c0_meaning/proofs/Rules) and the rule for runs (proofs/Invariants)
+-- From code that is done to a dispatch that keeps a property: so the rules for code (c0_meaning/proofs/Rules) and the rule for runs (proofs/InvariantsHold)
 -- meet. No contract can carry it, since a property ranges over types: this file may be cited from other crates.
 use Rattle.std.proofs.Common.{◌≡◌, ℕ, List, [], ◌∷◌, ◌++◌, length, sym, ap, ◌∙◌, subst}
 use Rattle.std.specs.Prelude.{pos}

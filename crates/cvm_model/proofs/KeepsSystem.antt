@@ -1,5 +1,5 @@
 -- From code that is done to a dispatch that keeps a property of a whole system: so the rules for code (c0_meaning/proofs/Rules) and the rule for systems
--- (proofs/Systems) meet. No contract can carry it, since a property ranges over types: this file may be cited from other crates.
+-- (proofs/SystemsHold) meet. No contract can carry it, since a property ranges over types: this file may be cited from other crates.
 use Rattle.std.proofs.Common.{◌≡◌, ℕ, zero, suc, ◌≤◌, List, [], ◌∷◌, ◌++◌, length, Some, sym, ap, ◌∙◌, subst, arith}
 use Rattle.std.specs.Prelude.{pos, ◌≢◌, ℤ, if◌then◌else◌}
 use Rattle.std.proofs.lemmas.Bool.{lt-ltb}

@@ -14,7 +14,7 @@ use Rattle.cvm_model.specs.Primitives.{KernelCall, VmGet, VmSet, VmSize, VmResiz
 use Rattle.cvm_model.specs.KernelMeaning.{Machines, ints_of, primitive_called, kernel_primitive, setting_of, machines_of, outcome_of, UnitsReplay}
 use Rattle.cvm_model.specs.KernelMeaning as kernel
 use Rattle.cvm_model.specs.Journal.{changes_of, replay, CallsReplay}
-use Rattle.cvm_model.proofs.Replays.{joins}
+use Rattle.cvm_model.proofs.ReplayedInParts.{joins}
 use Rattle.cvm_model.proofs.KernelLaws.{joined, work_of, start_of}
 use Rattle.cvm_model.proofs.PrimitiveReplays.{unchanged_case, primitives_replay}
 

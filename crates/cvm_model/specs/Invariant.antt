@@ -1,5 +1,5 @@
 -- How a property of a kernel is proved of all its runs: as an invariant that each dispatch keeps. The rule is `InvariantsHold`, which the lemma
--- `invariants_hold` of proofs/Invariants proves; a run then needs no induction by whoever has a kernel.
+-- `invariants_hold` of proofs/InvariantsHold proves; a run then needs no induction by whoever has a kernel.
 use Rattle.std.specs.Prelude.{◌≡◌, ℕ, zero, suc, ◌*◌, ◌<◌, ◌≤◌, ◌^◌, ℤ, Option, Some, None, List, [], ◌∷◌, ◌++◌, length, map, bit_or, All}
 use Rattle.mips_table.specs.declared.cause.Cause.{Cause}
 use Rattle.mips_table.specs.declared.cause.Cause.TheVariants.{Reset, External}
@@ -149,7 +149,7 @@ abbrev pub HasEight : (ℕ → ℕ) → Type 0
 HasEight lines = (k : ℕ) → lines k < 2 ^ 8
 
 -- THE RULE: with an invariant, whatever lines are raised, each turn ends, no dispatch faults, and the invariant holds of the run's dispatches from the
--- first turn on. To be used of a kernel whose dispatches keep a property, by `invariants_hold` of proofs/Invariants: no run is looked at then.
+-- first turn on. To be used of a kernel whose dispatches keep a property, by `invariants_hold` of proofs/InvariantsHold: no run is looked at then.
 abbrev pub InvariantsHold : Type 1
 InvariantsHold = (y : System) (u : CUnit) (n : ℕ) (Fit : Core → Type 0) (I : Property)
     → y.boot.meaning ≡ kernel_meaning u y.boot.params → Known y Fit → IsInvariant y n Fit I → (lines : ℕ → ℕ) → HasEight lines → (k : ℕ)

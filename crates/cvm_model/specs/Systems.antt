@@ -1,5 +1,5 @@
 -- How a property of a whole system, a kernel with its users, is proved of all its runs: an invariant over the whole state between turns, which each dispatch
--- and each untrapped step of a user keeps. The rule is `SystemsHold`, which the lemma `systems_hold` of proofs/Systems proves; that of Invariant is one of
+-- and each untrapped step of a user keeps. The rule is `SystemsHold`, which the lemma `systems_hold` of proofs/SystemsHold proves; that of Invariant is one of
 -- its instances. The law `RunsAreChains` says of each run, with no invariant, how its dispatches follow one another.
 use Rattle.std.specs.Prelude.{◌≡◌, ◌≢◌, ℕ, zero, suc, ◌+◌, ◌<◌, ◌≤◌, ◌^◌, ◌==◌, if◌then◌else◌, ℤ, Some, List, [], ◌∷◌, ◌++◌, length}
 use Rattle.mips_table.specs.declared.cause.Cause.{Cause}

@@ -1,5 +1,5 @@
 // Laws for whoever proves a property of a kernel's runs. The rules for runs and the way from code to runs range over properties, which no
-// contract can: they are lemmas of the files proofs/Systems, proofs/Invariants, proofs/KeepsDispatch and proofs/KeepsSystem.
+// contract can: they are lemmas of the files proofs/SystemsHold, proofs/InvariantsHold, proofs/KeepsDispatch and proofs/KeepsSystem.
 
 ghost use Rattle.cvm_model.specs.Invariant.{RunsAreLawful};
 ghost use Rattle.cvm_model.specs.JournalWords.{JournalsHoldWords};

@@ -8,7 +8,7 @@ use Rattle.cvm_outside.specs.Numbering.{until_fault}
 use Rattle.cvm_outside.specs.Told.{AppendsPart, with_sector}
 use Rattle.cvm_outside.specs.declared.sink.SinkFault.{SinkFault}
 use Rattle.cvm_outside.specs.declared.sectors.DiskFault.{DiskFault}
-use Rattle.cvm_outside.proofs.Parts.{append_known-nil, append_known-append, part-front, part-back}
+use Rattle.cvm_outside.proofs.PartsMakeTheWhole.{append_known-nil, append_known-append, part-front, part-back}
 use Rattle.cvm_outside.proofs.ScriptsFollow.{both, first}
 use Rattle.cvm_outside.specs.Outside.{Outside, Output, Drive, Files}
 use Rattle.cvm_outside.specs.Script.{Call, Printed, Read, Wrote, Got, Stored, Who, TheSink, TheDisk, TheShelf, Performs, done, breaks, goes_on, CallDone, CallFailed, Rises, disk_called, scripts, Puts, blame, of_sink, of_disk, WritesNoSector}

@@ -5,7 +5,7 @@ use Rattle.std.specs.Option.{option_map}
 use Rattle.std.specs.Io.KnownBytes.{append_known}
 use Rattle.cvm_outside.specs.Numbering.{Tally, until_fault, called}
 use Rattle.cvm_outside.specs.Told.{AppendsPart}
-use Rattle.cvm_outside.proofs.Parts.{append_known-nil, puts-both, part-none, part-front, part-back}
+use Rattle.cvm_outside.proofs.PartsMakeTheWhole.{append_known-nil, puts-both, part-none, part-front, part-back}
 use Rattle.cvm_outside.specs.Outside.{Outside, Drive, Files, counts, shelf_counts}
 use Rattle.cvm_outside.specs.Script.{Call, Printed, Read, Wrote, Got, Stored, Who, TheDisk, TheShelf, who, done, breaks, goes_on, CallDone, CallFailed, ShelfCalled, spoken, disk_calls}
 use Rattle.cvm_outside.specs.ScriptLaws.{PrintedBy, ScriptsTell, MadeBy, CallsMade, CountedCalls, ScriptsCount, ShelfCounted, ScriptsCountFiles}

@@ -9,7 +9,7 @@ use Rattle.mips_table.specs.Code.{put, Contents, Behind, World}
 use Rattle.cvm_primitives.specs.Routines.{RoutineLaws}
 use Rattle.masm.specs.Says.{Gives, Reads, Widens}
 use Rattle.masm.specs.Laws.{From}
-use Rattle.cvm_primitives.proofs.Forms.{from_straight, from_then, from_when, straight_then}
+use Rattle.cvm_primitives.proofs.BlocksFromOneState.{from_straight, from_then, from_when, straight_then}
 use Rattle.page_model.specs.TableLayout.{TableLayout}
 use Rattle.frame_table.specs.View.{Sited}
 use Rattle.cvm_primitives.specs.View.{UsersIn, WordGood, number_of_word, size_at}

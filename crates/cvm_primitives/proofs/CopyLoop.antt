@@ -6,12 +6,12 @@ use Rattle.page_model.specs.Paging.{PageLayout, Pages, PagingInvariant, Paged}
 use Rattle.mips_table.specs.Code.{Contents, Behind, World, Does}
 use Rattle.cvm_primitives.specs.Routines.{RoutineLaws}
 use Rattle.masm.specs.Blocks.{loop_code}
-use Rattle.cvm_primitives.proofs.Forms.{weaker, loop_pays}
+use Rattle.cvm_primitives.proofs.BlocksFromOneState.{weaker, loop_pays}
 use Rattle.cvm_primitives.specs.Copy.{word_of_pages, copied, Apart, piece_count, piece, copy_cost}
 use Rattle.page_model.specs.TableLayout.{TableLayout}
 use Rattle.cvm_primitives.specs.View.{steps_of_page, PagesHeld, Marks, CopyGood, EntryState}
 use Rattle.cvm_primitives.proofs.PartStates.{PieceLaw}
-use Rattle.cvm_primitives.proofs.Pieces.{fits, pieces_step}
+use Rattle.cvm_primitives.proofs.OnePieceOfMany.{fits, pieces_step}
 
 -- two flat memories with the same words
 pub record Agree (l : PageLayout) (u v : Pages) : Type 0 where

@@ -10,7 +10,7 @@ use Rattle.cvm_primitives.specs.Routines.{RoutineLaws}
 use Rattle.masm.specs.Says.{Gives, Reads, Writes}
 use Rattle.masm.specs.Blocks.{when_code}
 use Rattle.masm.specs.Laws.{From}
-use Rattle.cvm_primitives.proofs.Forms.{from_straight, from_then, from_when, from_later}
+use Rattle.cvm_primitives.proofs.BlocksFromOneState.{from_straight, from_then, from_when, from_later}
 use Rattle.page_model.specs.TableLayout.{TableLayout, count_at, paged_view}
 use Rattle.frame_table.specs.View.{Sited, Relisted}
 use Rattle.cvm_primitives.proofs.PartStates.{Keeps, Found, DropAsked, DropDone}

@@ -9,7 +9,7 @@ use Rattle.cvm_primitives.specs.Routines.{RoutineLaws}
 use Rattle.masm.specs.Says.{Gives}
 use Rattle.masm.specs.Blocks.{loop_code}
 use Rattle.masm.specs.Laws.{LoopRuns, From}
-use Rattle.cvm_primitives.proofs.Forms.{from_straight, from_later}
+use Rattle.cvm_primitives.proofs.BlocksFromOneState.{from_straight, from_later}
 use Rattle.cvm_primitives.specs.Copy.{copied, piece_count, piece, copy_cost}
 use Rattle.page_model.specs.TableLayout.{TableLayout}
 use Rattle.frame_table.specs.View.{Sited}
@@ -19,10 +19,10 @@ use Rattle.cvm_primitives.specs.Sharing.{EndsWhole, LastShared, LastPieceShares}
 use Rattle.cvm_primitives.proofs.PartStates.{PieceLaw}
 use Rattle.cvm_primitives.specs.Code.{piece_code, copies_code, pieces_code, vm_copy_code}
 use Rattle.cvm_primitives.proofs.SharedByRoutines.{held_to}
-use Rattle.cvm_primitives.proofs.Pieces.{Fits, fits}
+use Rattle.cvm_primitives.proofs.OnePieceOfMany.{Fits, fits}
 use Rattle.cvm_primitives.proofs.CopyLoop.{Copying, held_on, nothing_copied, copied_on, whole_cost, rest_good, turn, pays}
 use Rattle.cvm_primitives.proofs.OnePiece.{piece_law, piece_paid, piece_short, run_short}
-use Rattle.cvm_primitives.proofs.Copies.{numbers_apart, live_range, range_below, copy_asked_from}
+use Rattle.cvm_primitives.proofs.CopyFromArguments.{numbers_apart, live_range, range_below, copy_asked_from}
 
 -- before the last page a piece copies no word of it
 stops_before : (x y n m l : ℕ) → EndsWhole x y n → m < n - 1024 → Fits (x + m) (y + m) (n - m) l → m + l ≤ n - 1024

@@ -14,7 +14,7 @@ use Rattle.cvm_model.specs.Kernel.{flat}
 use Rattle.cvm_model.specs.Primitives.{KernelCall, Given, user_of, with_user, pages_of, is_good, granted, refused, unchanged}
 use Rattle.cvm_model.specs.Paged.{pages_by}
 use Rattle.cvm_primitives.specs.Blocks.{block_word, IsOneOf, BlocksHold, console_of}
-use Rattle.cvm_primitives.proofs.Flats.{flat_of, replaced, sized, put_words, Same, InLists}
+use Rattle.cvm_primitives.proofs.UserMemories.{flat_of, replaced, sized, put_words, Same, InLists}
 use Rattle.cvm_primitives.specs.View.{entry_state, PagesHeld, WordGood, CopyArgs, ResizeGood, number_of_word, size_at, steps_of_page}
 use Rattle.std.proofs.lemmas.List.Elements.{All-get_or}
 use Rattle.mips_table.specs.declared.inst.Inst.{Inst}
@@ -27,7 +27,7 @@ use Rattle.cvm_primitives.specs.Code.{vm_word_code, vm_put_code, vm_copy_code, v
 use Rattle.cvm_primitives.specs.Routines.{RoutineLaws}
 use Rattle.cvm_primitives.specs.Laws.{EnteredOnPages, VmWord, VmPut, VmCopy, VmResize}
 use Rattle.cvm_primitives.specs.Calls.{CallEntered, CallLeft, call_steps, AnswersOnPages, word_call, put_call, copy_call, resize_call, call_given, Grown}
-use Rattle.cvm_primitives.proofs.Forms.{from_later}
+use Rattle.cvm_primitives.proofs.BlocksFromOneState.{from_later}
 use Rattle.cvm_primitives.proofs.ArgumentNumbers.{within_is, place_is, overlap_is, signed_pos, signed_neg, as_word, and_false}
 use Rattle.cvm_primitives.proofs.UserLists.{in_lists, stands_same}
 

@@ -11,7 +11,7 @@ use Rattle.cvm_primitives.specs.Routines.{RoutineLaws}
 use Rattle.masm.specs.Says.{Gives}
 use Rattle.masm.specs.Blocks.{when_code, loop_code, back_code}
 use Rattle.masm.specs.Laws.{From}
-use Rattle.cvm_primitives.proofs.Forms.{from_straight, from_then, from_when, from_later, straight_then, does_from}
+use Rattle.cvm_primitives.proofs.BlocksFromOneState.{from_straight, from_then, from_when, from_later, straight_then, does_from}
 use Rattle.cvm_primitives.specs.Copy.{copied, Apart, least, piece, piece_count}
 use Rattle.page_model.specs.TableLayout.{TableLayout, paged_view}
 use Rattle.frame_table.specs.View.{Sited}
@@ -21,10 +21,10 @@ use Rattle.cvm_primitives.proofs.PartStates.{PieceLaw}
 use Rattle.masm.specs.Copy.{copy_code}
 use Rattle.cvm_primitives.specs.Code.{to_end_code, least_code, piece_length_code, read_code, try_share_code, copy_words_of_piece_code, piece_code, page_in_both_code, locate_code}
 use Rattle.cvm_primitives.proofs.SharedByRoutines.{flag_of, held_to}
-use Rattle.cvm_primitives.proofs.Pieces.{Fits, fits}
+use Rattle.cvm_primitives.proofs.OnePieceOfMany.{Fits, fits}
 use Rattle.cvm_primitives.proofs.CopyLoop.{Agree, held_on, copies}
 use Rattle.cvm_primitives.proofs.PagesBrought.{Looks, any_looks, Resident, resident_looks, brings, others_back}
-use Rattle.cvm_primitives.proofs.Words.{words_from}
+use Rattle.cvm_primitives.proofs.WordsCopied.{words_from}
 use Rattle.cvm_primitives.proofs.PageShared.{whole_from, paged}
 
 module _ (w : World) (f : RoutineLaws w) where

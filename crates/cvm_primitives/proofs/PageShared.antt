@@ -5,14 +5,14 @@ use Rattle.mips_table.specs.declared.inst.Inst.TheVariants.{Sll, Srl, Addiu, Add
 use Rattle.mips_table.specs.Arith.{flag}
 use Rattle.page_model.specs.Paging.{IsUserFrame, Valid, MapsTo, naming, Pages, PagingInvariant, IsAccessible, counted_entries}
 use Rattle.page_model.specs.Edits.{Joined, PageSet, Retargeted}
-use Rattle.cvm_primitives.proofs.Forms.{names_own}
+use Rattle.cvm_primitives.proofs.BlocksFromOneState.{names_own}
 use Rattle.mips_table.specs.Device.{Idle}
 use Rattle.mips_table.specs.Code.{put, Contents, with_reg, Behind, World}
 use Rattle.cvm_primitives.specs.Routines.{RoutineLaws}
 use Rattle.masm.specs.Says.{Gives, Reads, Writes}
 use Rattle.masm.specs.Blocks.{when_code}
 use Rattle.masm.specs.Laws.{From}
-use Rattle.cvm_primitives.proofs.Forms.{from_straight, from_then, from_when, from_later, straight_then}
+use Rattle.cvm_primitives.proofs.BlocksFromOneState.{from_straight, from_then, from_when, from_later, straight_then}
 use Rattle.cvm_primitives.specs.Copy.{copied}
 use Rattle.page_model.specs.TableLayout.{TableLayout, count_at, paged_view}
 use Rattle.frame_table.specs.View.{Sited, Relisted}

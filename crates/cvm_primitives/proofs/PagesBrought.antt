@@ -10,7 +10,7 @@ use Rattle.mips_table.specs.Code.{Contents, Behind, World}
 use Rattle.cvm_primitives.specs.Routines.{RoutineLaws}
 use Rattle.masm.specs.Says.{Gives}
 use Rattle.masm.specs.Laws.{From}
-use Rattle.cvm_primitives.proofs.Forms.{from_straight, from_then, from_later}
+use Rattle.cvm_primitives.proofs.BlocksFromOneState.{from_straight, from_then, from_later}
 use Rattle.page_model.specs.TableLayout.{TableLayout, paged_view}
 use Rattle.frame_table.specs.View.{Sited}
 use Rattle.page_fault.specs.Asked.{PageAsked, PageDone, PageBlock, swap_steps, fault_steps, idle_steps}

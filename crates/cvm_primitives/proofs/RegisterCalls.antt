@@ -19,7 +19,7 @@ use Rattle.cvm_model.specs.Kernel.{Set, flat}
 use Rattle.cvm_model.specs.Primitives.{no_flat, KernelCall, ConGet, ConLeft, Given, user_of, with_user, pages_of, register_of, with_register, is_within, is_good, unchanged, changed, refused, granted, prim}
 use Rattle.cvm_primitives.specs.RegisterCode.{check_user_code, is_register_code, find_word_code, check_arguments_code, vm_get_code, vm_set_code, vm_size_code, con_put_code, con_get_code, con_left_code}
 use Rattle.cvm_primitives.specs.Blocks.{block_word, IsOneOf, BlocksHold, console_of, EnteredOnBlocks, LeftByCall}
-use Rattle.cvm_primitives.specs.RegisterLaws.{get_call, set_call, size_call, put_call}
+use Rattle.cvm_primitives.specs.RegisterLaws.{get_call, set_call, size_call, console_put_call}
 use Rattle.cvm_primitives.proofs.RegisterForms.{CodeLaws, within, straightly, straightly_then, conditionally}
 use Rattle.cvm_primitives.proofs.RegisterNumbers.{small_is, put_same, put_other, flag_of, word_in, word_out, as_word}
 
@@ -292,7 +292,7 @@ module _ (w : World) (f : CodeLaws w) (users : List Flat) (c : Contents) (d : Be
       ))
 
   -- CON_PUT
-  pub puts : (most : ℕ) → From w con_put_code 3 c d (LeftByCall users (prim most (put_call c) users (console_of d)) c d)
+  pub puts : (most : ℕ) → From w con_put_code 3 c d (LeftByCall users (prim most (console_put_call c) users (console_of d)) c d)
   puts most =
       let small = f.small in
       straightly w f con_put_code (put_says (length d.log) (c.regs 20)) c d _ refl e.idle

@@ -3,13 +3,13 @@ use Rattle.std.proofs.Common.{◌≡◌, ◌≢◌, ℕ, zero, suc, ◌+◌, ◌
 use Rattle.std.proofs.lemmas.Bool.{cases_eq, cases_lt, cond-true, cond-false, ltb-true}
 use Rattle.std.proofs.lemmas.List.{get_or_append_left, get_or-append_right, get_or-take, get_or-drop, get_or-replicate, length-take-le, length-take, length-drop}
 use Rattle.page_model.specs.Paging.{PageLayout, Pages, Paged, PagingInvariant}
-use Rattle.cvm_primitives.proofs.Flats.{flat_of}
+use Rattle.cvm_primitives.proofs.UserMemories.{flat_of}
 use Rattle.cvm_primitives.specs.Copy.{word_of_pages, with_page_word, copied, pages_cut, grown, piece_count}
 use Rattle.cvm_primitives.specs.View.{WordGood, CopyArgs, ResizeGood, number_of_word}
-use Rattle.cvm_primitives.proofs.Flats.{replaced, put_words, sized, Same, Lists, InLists}
+use Rattle.cvm_primitives.proofs.UserMemories.{replaced, put_words, sized, Same, Lists, InLists}
 use Rattle.cvm_primitives.proofs.ArgumentTests.{product_below}
 use Rattle.cvm_primitives.proofs.CopyLoop.{word_before, word_in, word_past}
-use Rattle.cvm_primitives.proofs.Resize.{before_is, within_is, past_is, grown_word, grown_zero}
+use Rattle.cvm_primitives.proofs.PagesResized.{before_is, within_is, past_is, grown_word, grown_zero}
 
 -- the user and the page of a page's number
 page_number : (per p u : ℕ) → p < per → ((u * per + p) / per ≡ u) × ((u * per + p) % per ≡ p)

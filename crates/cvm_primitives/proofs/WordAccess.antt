@@ -3,13 +3,13 @@ use Rattle.std.proofs.Common.{◌≡◌, ◌≢◌, ℕ, ◌+◌, ◌-◌, ◌*�
 use Rattle.std.proofs.lemmas.Bool.{cases_eq, cond-true, cond-false}
 use Rattle.mips_table.specs.declared.inst.Inst.TheVariants.{Srl, Addiu, Addu, Lw, Sw}
 use Rattle.page_model.specs.Paging.{IsUserFrame, IsFrame, MapsTo, Pages, PagingInvariant, IsAccessible}
-use Rattle.cvm_primitives.proofs.Forms.{names_own}
-use Rattle.cvm_primitives.proofs.Forms.{user_or_zero}
+use Rattle.cvm_primitives.proofs.BlocksFromOneState.{names_own}
+use Rattle.cvm_primitives.proofs.BlocksFromOneState.{user_or_zero}
 use Rattle.mips_table.specs.Code.{put, Contents, with_reg, Behind, World}
 use Rattle.cvm_primitives.specs.Routines.{RoutineLaws}
 use Rattle.masm.specs.Says.{Gives, Reads, Writes}
 use Rattle.masm.specs.Laws.{From}
-use Rattle.cvm_primitives.proofs.Forms.{from_straight, from_then, from_later, straight_then}
+use Rattle.cvm_primitives.proofs.BlocksFromOneState.{from_straight, from_then, from_later, straight_then}
 use Rattle.cvm_primitives.specs.Copy.{word_of_pages, with_page_word}
 use Rattle.page_model.specs.TableLayout.{TableLayout, count_at, slot_at, paged_view}
 use Rattle.layer_map.specs.Map.{hand_at}

@@ -5,7 +5,7 @@ use Rattle.mips_table.specs.Code.{Contents, Behind, World}
 use Rattle.cvm_primitives.specs.Routines.{RoutineLaws}
 use Rattle.masm.specs.Says.{Gives, Reads}
 use Rattle.masm.specs.Laws.{From}
-use Rattle.cvm_primitives.proofs.Forms.{from_straight, from_later}
+use Rattle.cvm_primitives.proofs.BlocksFromOneState.{from_straight, from_later}
 use Rattle.page_model.specs.TableLayout.{TableLayout}
 use Rattle.frame_table.specs.View.{Sited}
 use Rattle.cvm_primitives.proofs.PartStates.{Keeps, Moved, Located}

@@ -25,15 +25,15 @@ set_call c = VmSet (signed (c.regs USER)) (signed (c.regs NUMBER)) (signed (c.re
 abbrev pub size_call : Contents → KernelCall
 size_call c = VmSize (signed (c.regs USER))
 
-abbrev pub put_call : Contents → KernelCall
-put_call c = ConPut (signed (c.regs ARGUMENTS))
+abbrev pub console_put_call : Contents → KernelCall
+console_put_call c = ConPut (signed (c.regs ARGUMENTS))
 
 -- vm_get, vm_set and vm_size, and the console's calls
 pub record RegisterCallsAnswer (w : World) (most : ℕ) (users : List Flat) (c : Contents) (d : Behind) : Type 0 where
   pub get : AnswersInRegisters w (vm_get_code (length users)) 14 (get_call c) most users c d
   pub set : AnswersInRegisters w (vm_set_code (length users)) 15 (set_call c) most users c d
   pub size : AnswersInRegisters w (vm_size_code (length users)) 8 (size_call c) most users c d
-  pub put : AnswersInRegisters w con_put_code 3 (put_call c) most users c d
+  pub put : AnswersInRegisters w con_put_code 3 (console_put_call c) most users c d
   pub take : AnswersInRegisters w con_get_code 1 ConGet most users c d
   pub left : AnswersInRegisters w con_left_code 1 ConLeft most users c d
 

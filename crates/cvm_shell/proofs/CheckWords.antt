@@ -2,7 +2,7 @@
 use Rattle.std.proofs.Common.{◌≡◌, ℕ, ◌≤◌, List, [], ◌∷◌, sym, ap, ◌∙◌, arith, Some}
 use Rattle.std.specs.Prelude.{decimal, codes}
 use Rattle.run_scripts.specs.Check.{Check, IsCheck}
-use Rattle.cvm_shell.proofs.Spellings.{same_number}
+use Rattle.cvm_shell.proofs.OneNumberSpelled.{same_number}
 
 -- these words, with the number that the third spells, are a check
 pub words_of_check : (words : List (List ℕ)) (word object text : List ℕ) (stack : ℕ) → words ≡ word ∷ object ∷ text ∷ [] → word ≡ codes "check" → text ≡ decimal stack → 64 ≤ stack → stack ≤ 262144

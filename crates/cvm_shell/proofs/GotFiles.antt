@@ -18,7 +18,7 @@ use Rattle.cvm_shell.specs.Stages.{stop_of, IsFile, Fetched, OnlyLong}
 use Rattle.cvm_shell.specs.Does.{IsLong, StopGets}
 use Rattle.cvm_shell.specs.Views.{refusal_view, IfRefused, IfPlan}
 use Rattle.cvm_shell.proofs.GotCalls.{beside}
-use Rattle.cvm_shell.proofs.Plans.{got_whole, got_long, if_plan, long_contents, short_contents}
+use Rattle.cvm_shell.proofs.FilesComeToPlans.{got_whole, got_long, if_plan, long_contents, short_contents}
 
 abbrev Files : Type 0
 Files = List ℕ → Option (List ℕ)

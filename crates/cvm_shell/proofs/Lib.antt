@@ -5,20 +5,18 @@ mod CheckPlans
 mod CheckWords
 mod StageEnds
 mod CommandPlans
-mod ListsOfTwo
+mod WordsByPlaces
 mod FirstBad
-mod ListsOfFive
 pub mod AcceptedFollow
-mod ListsOfFour
 mod FourBytes
 mod SourceFronts
 mod GotCalls
 mod GotFiles
-mod Isolating
+mod MachinesReplay
 mod CodePlans
 mod LinkPlans
 mod MigratePlans
-mod Plans
+mod FilesComeToPlans
 mod ProgramPlans
 mod SamplePlans
 mod SavePlans
@@ -31,7 +29,7 @@ mod SystemCalls
 mod StackOut
 mod ProgramJournals
 mod StackTexts
-mod Spellings
+mod OneNumberSpelled
 mod StartAnswers
 mod UserWords
 mod LinkedUsers

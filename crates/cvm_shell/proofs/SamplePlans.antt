@@ -28,7 +28,7 @@ use Rattle.run_scripts.specs.Refusal.{bad_source, unlinked}
 use Rattle.run_scripts.specs.Plan.{Plan, refuses, AfterFiles, AfterLinking, AfterSource, PartsPlan, IsLinkedTo, IsPlan}
 use Rattle.cvm_shell.specs.Stages.{source_stop, link_stop}
 use Rattle.cvm_shell.specs.Views.{IfRefused, IfPlan}
-use Rattle.cvm_shell.proofs.Plans.{if_plan}
+use Rattle.cvm_shell.proofs.FilesComeToPlans.{if_plan}
 use Rattle.cvm_shell.proofs.SourceStops.{unread_stops, mistyped_stops}
 use Rattle.cvm_shell.proofs.SourceFronts.{OneAnswer, answer_or_memory, one_fault, not_both}
 use Rattle.cvm_shell.proofs.LinkPlans.{Layers, unfit_answers, no_unit, memory_of, link_stops}

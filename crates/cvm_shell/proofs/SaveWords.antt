@@ -3,7 +3,7 @@ use Rattle.std.proofs.Common.{◌≡◌, ℕ, ◌<◌, ◌≤◌, ◌^◌, List,
 use Rattle.std.specs.Prelude.{decimal}
 use Rattle.run_scripts.specs.declared.session.StartPoint.TheVariants.{Loaded}
 use Rattle.run_scripts.specs.Command.{BootCommand, Save, start_word, IsBoot, IsSaveBy}
-use Rattle.cvm_shell.proofs.Spellings.{words_of_one, none_for_turns, none_for_steps}
+use Rattle.cvm_shell.proofs.OneNumberSpelled.{words_of_one, none_for_turns, none_for_steps}
 
 -- these words, with numbers that they spell, are a save
 pub words_of_save : (first : List ℕ) (words : List (List ℕ)) (word image schedule t s file : List ℕ) (turns steps : ℕ) → words ≡ word ∷ image ∷ schedule ∷ t ∷ s ∷ file ∷ [] → word ≡ first

@@ -12,7 +12,7 @@ use Rattle.boot_run.specs.declared.whole.RunEnd.{RunEnd}
 use Rattle.kernel_linker.specs.Accept.{image_system}
 use Rattle.boot_run.specs.RunEnds.{SeesUser}
 use Rattle.boot_run.specs.SavedRuns.{IsDisk}
-use Rattle.boot_run.proofs.Premises.{are_pages}
+use Rattle.boot_run.proofs.PremisesOfBoots.{are_pages}
 use Rattle.cvm_outside.specs.Told.{IsSector}
 use Rattle.cvm_shell.specs.declared.boot.Ready.{Ready}
 use Rattle.run_scripts.specs.declared.session.Session.{Session}

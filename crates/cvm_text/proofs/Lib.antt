@@ -1,7 +1,7 @@
 pub mod ReadIsSpelled
 pub mod FirstByteCuts
-pub mod Digits
+pub mod FrontsOfDigits
 pub mod FirstLine
 pub mod HexDigits
-pub mod Spelling
+pub mod SpelledIsDecimal
 pub mod WholeNumbers

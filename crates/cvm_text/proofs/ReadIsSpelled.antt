@@ -8,8 +8,8 @@ use Rattle.std.proofs.lemmas.List.{drop-drop}
 use Rattle.std.proofs.lemmas.List.Folds.{length-prefix_len}
 use Rattle.std.proofs.lemmas.List.Sums.{prefix_len_stops, prefix_len-drop_no, prefix_len-drop_all}
 use Rattle.cvm_text.specs.Number.{digits_at, is_spelling, value_of, spelled_number_at, IsSpelledAt}
-use Rattle.cvm_text.proofs.Digits.{limit_is_small}
-use Rattle.cvm_text.proofs.Spelling.{spelled_is}
+use Rattle.cvm_text.proofs.FrontsOfDigits.{limit_is_small}
+use Rattle.cvm_text.proofs.SpelledIsDecimal.{spelled_is}
 
 -- the longest front of elements that pass: all of it passes, and the next element doesn't
 all_front : (p : ℕ → Bool) (xs : List ℕ) → list_all p (take (prefix_len p xs) xs) ≡ true

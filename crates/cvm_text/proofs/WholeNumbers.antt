@@ -6,7 +6,7 @@ use Rattle.std.proofs.lemmas.List.{drop_all}
 use Rattle.cvm_text.specs.Number.{spelled_number_at}
 use Rattle.cvm_text.specs.Lines.{number_spelled}
 use Rattle.cvm_text.proofs.ReadIsSpelled.{spelled-number_at}
-use Rattle.cvm_text.proofs.Spelling.{number_at-decimal}
+use Rattle.cvm_text.proofs.SpelledIsDecimal.{number_at-decimal}
 
 -- a step that gives something had something before it
 had : {X Y : Type 0} (f : X → Option Y) (o : Option X) (y : Y) → option_and_then f o ≡ Some y → (x : X) × (o ≡ Some x) × (f x ≡ Some y)

@@ -9,7 +9,7 @@ use Rattle.layer_map.specs.Map.{hand_at}
 use Rattle.masm.specs.Blocks.{when_code}
 use Rattle.masm.specs.Says.{Gives, Reads, Writes}
 use Rattle.masm.specs.Laws.{From}
-use Rattle.masm.proofs.Routines.{from_straight, from_then, from_later, from_when, straight_then}
+use Rattle.masm.proofs.RulesForRoutines.{from_straight, from_then, from_later, from_when, straight_then}
 use Rattle.page_model.specs.TableLayout.{TableLayout}
 use Rattle.frame_table.specs.Code.{walk_page_table_code, advance_clock_code}
 use Rattle.frame_table.specs.View.{Sited, Ported, Found, WordWritten}

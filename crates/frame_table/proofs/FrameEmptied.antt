@@ -10,7 +10,7 @@ use Rattle.masm.specs.Says.{Says, Gives, Reads, Writes}
 use Rattle.masm.specs.Laws.{From}
 use Rattle.masm.specs.Stays.{RegistersStay}
 use Rattle.masm.specs.Frames.{SwappedOut, Besides, WritesFrames}
-use Rattle.masm.proofs.Routines.{from_straight, from_then, from_later, straight_then, does_from, from_does, loop_goes}
+use Rattle.masm.proofs.RulesForRoutines.{from_straight, from_then, from_later, straight_then, does_from, from_does, loop_goes}
 use Rattle.page_model.specs.Paging.{IsUserFrame, MapsTo, Pages, Listed, PagingInvariant}
 use Rattle.page_model.specs.Laws.{ListsAreWhole, EntriesShow}
 use Rattle.page_model.specs.TableLayout.{TableLayout, count_at, slot_at, paged_view}

@@ -6,7 +6,7 @@ use Rattle.mips_table.specs.Device.{Idle}
 use Rattle.mips_table.specs.Code.{put, with_reg, Contents, Behind, World, Sound}
 use Rattle.masm.specs.Says.{Gives, Reads, Writes}
 use Rattle.masm.specs.Laws.{RunsCompose, JumpsLead, From}
-use Rattle.masm.proofs.Routines.{from_straight, from_then, from_later, straight_then}
+use Rattle.masm.proofs.RulesForRoutines.{from_straight, from_then, from_later, straight_then}
 use Rattle.page_model.specs.Paging.{IsUserFrame}
 use Rattle.page_model.specs.Edits.{Joined, Parted}
 use Rattle.page_model.specs.TableLayout.{TableLayout, count_at}

@@ -1,13 +1,13 @@
 pub mod EightLines
-pub mod Room
-pub mod Boots
-mod Stands
-pub mod Systems
+pub mod RunsHaveRoom
+pub mod StatesShown
+mod StatesPrinted
+pub mod SystemsBoot
 mod RoundRobins
-mod Guardeds
-mod Mailboxes
-mod Semaphores
+mod GuardedBoots
+mod MailboxBoots
+mod SemaphoreBoots
 mod OwnRuns
-mod Blocks
-mod Separate
-pub mod Linked
+mod ReportsCut
+mod TextsChangeNone
+pub mod UsersOfLinked

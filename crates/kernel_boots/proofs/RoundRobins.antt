@@ -8,7 +8,7 @@ use Rattle.kernel_theorems.specs.Text.{Means}
 use Rattle.kernel_theorems.specs.RoundRobin.{round_robin, RunsRoundRobin, RoundRobinIsFair}
 use Rattle.kernel_theorems.specs.RoundRobinText.{text}
 use Rattle.kernel_boots.specs.RoundRobins.{IsOrdered, RoundRobinsBoot}
-use Rattle.kernel_boots.proofs.Boots.{boots_of}
+use Rattle.kernel_boots.proofs.StatesShown.{boots_of}
 
 at_start : (y : System) (c : Cvm) → Some (first_cvm y) ≡ Some c → IsOrdered c
 at_start y c e = let s : first_cvm y ≡ c = cc in subst IsOrdered s (record { safe = tt; order = tt })

@@ -13,7 +13,7 @@ use Rattle.c0_types.specs.declared.source_fault.SourceFault.{SourceFault}
 use Rattle.kernel_linker.specs.Linked.{linked, sizes_of}
 use Rattle.kernel_linker.specs.Fault.{accept_source_fault}
 use Rattle.cvm_words.specs.Reading.{◌>>=◌, GivesOkUnless}
-use Rattle.kernel_linker.specs.Accept.{front_unit, accept_answer}
+use Rattle.kernel_linker.specs.Accept.{accept_front_unit, accept_answer}
 use Rattle.kernel_linker.specs.Migrate.{migrate_answer, Migrates, IsAcceptedAnew}
 use Rattle.kernel_linker.specs.declared.fault.AcceptFault.{AcceptFault}
 use Rattle.kernel_linker.proofs.AcceptSteps.{of_image}

@@ -30,23 +30,23 @@ abbrev pub image_system : Boot → ImageSystem
 image_system b = record { params = b.params; unit = unit_view b.unit; words = b.words.items; users = map (λ u. u.items) b.users.items }
 
 -- the unit that the front came to
-abbrev pub front_unit : Result CUnit SourceFault → Result CUnit AcceptFault
-front_unit (Ok u) = Ok u
-front_unit (Err f) = Err (accept_source_fault f)
+abbrev pub accept_front_unit : Result CUnit SourceFault → Result CUnit AcceptFault
+accept_front_unit (Ok u) = Ok u
+accept_front_unit (Err f) = Err (accept_source_fault f)
 
 -- words are those that are made
-abbrev pub unforged : Result (Unit {0}) Difference → Result (Unit {0}) AcceptFault
-unforged (Ok x) = Ok x
-unforged (Err d) = Err (accept_difference d)
+abbrev pub accept_unforged : Result (Unit {0}) Difference → Result (Unit {0}) AcceptFault
+accept_unforged (Ok x) = Ok x
+accept_unforged (Err d) = Err (accept_difference d)
 
 -- an image's linked words, if it has any, are those that are made
 abbrev pub words_match : Image → (made : List ℕ) → Result (Unit {0}) AcceptFault
-words_match i made = if nat_eq i.form 1 then Ok tt else unforged (compared i.words made)
+words_match i made = if nat_eq i.form 1 then Ok tt else accept_unforged (compared i.words made)
 
 -- ACCEPT, over a layer that has these words for a map and sizes, where the front came to this on the image's source
 unfoldable pub accept_answer : (layer : Map → List ℕ → List ℕ) → Image → Result CUnit SourceFault → Result ImageSystem AcceptFault
 accept_answer layer i front = do
-  u ← front_unit front
+  u ← accept_front_unit front
   same ← words_match i (linked layer u i.params (sizes_of i.users))
   Ok (record { params = i.params; unit = u; words = linked layer u i.params (sizes_of i.users); users = i.users })
 

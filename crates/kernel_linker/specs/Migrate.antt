@@ -8,13 +8,13 @@ use Rattle.boot_image.specs.declared.fault.ImageFault.{ImageFault}
 use Rattle.c0_tree.specs.Tree.{CUnit}
 use Rattle.c0_types.specs.declared.source_fault.SourceFault.{SourceFault}
 use Rattle.kernel_linker.specs.Linked.{linked, sizes_of}
-use Rattle.kernel_linker.specs.Accept.{ImageSystem, front_unit, accept_answer, AnswersBy}
+use Rattle.kernel_linker.specs.Accept.{ImageSystem, accept_front_unit, accept_answer, AnswersBy}
 use Rattle.kernel_linker.specs.declared.fault.AcceptFault.{AcceptFault}
 
 -- MIGRATE, over a layer that has these words for a map and sizes, where the front came to this on the image's source
 unfoldable pub migrate_answer : (layer : Map → List ℕ → List ℕ) → Image → Result CUnit SourceFault → Result Image AcceptFault
 migrate_answer layer i front = do
-  u ← front_unit front
+  u ← accept_front_unit front
   Ok (record { params = i.params; form = 3; source = i.source; words = linked layer u i.params (sizes_of i.users); users = i.users })
 
 -- a result is what is answered of the old image that bytes were read as, or their fault

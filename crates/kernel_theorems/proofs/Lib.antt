@@ -1,22 +1,22 @@
-mod Texts
-pub mod Weaker
-pub mod Answering
+mod TextsMeanTrees
+pub mod LessSaid
+pub mod ComputedDispatches
 mod RoundRobins
 mod RoundRobinTexts
-mod Fairness
-mod Guardeds
+mod EachGetsATurn
+mod GuardedNeverFaults
 mod GuardedTexts
 mod FoundRegisters
 mod TrapData
-mod Mailboxes
+mod MessagesDelivered
 mod MailboxTexts
-mod Loggings
+mod LoggingIsKept
 mod LoggingTexts
-mod Semaphores
+mod AtMostOneInside
 mod SemaphoreTexts
 pub mod UserRuns
-pub mod Tests
-pub mod Histories
-pub mod Callers
+pub mod TestsSplit
+pub mod OneDispatchMore
+pub mod CallersFit
 pub mod OneKernel
 pub mod ForKernels

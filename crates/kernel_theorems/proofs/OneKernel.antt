@@ -17,7 +17,7 @@ use Rattle.cvm_model.specs.Invariant.{Property, Dispatch, Keeps, KeptAt}
 use Rattle.cvm_model.specs.Systems.{SystemProperty, KeepsAll, KeptAllAt, UsePages}
 use Rattle.cvm_model.proofs.KeepsDispatch.{keeps_by}
 use Rattle.cvm_model.proofs.KeepsSystem.{ComesWithin, Within, keeps_within_by}
-use Rattle.kernel_theorems.proofs.Answering.{answers_user}
+use Rattle.kernel_theorems.proofs.ComputedDispatches.{answers_user}
 
 module _ (y : System) (u : CUnit) (is : y.boot.meaning ≡ kernel_meaning u y.boot.params) (n : ℕ) where
   -- A KERNEL: the code of a dispatch from these data is done, and the property holds then

@@ -20,8 +20,8 @@ use Rattle.cvm_model.specs.Cvm.{System, Cvm, first_core}
 use Rattle.cvm_model.specs.declared.row.Next.TheVariants.{User}
 use Rattle.cvm_model.specs.declared.row.Row.{Row}
 use Rattle.cvm_model.specs.Invariant.{Dispatch, dispatch_row, dispatch_rows, IsTrap, Keeps, IsInvariant, Holds, HasUsers, dispatches_of, RunsAreLawful}
-use Rattle.cvm_model.proofs.Invariants.{invariants_hold}
-use Rattle.kernel_theorems.proofs.Answering.{rows_join, keeps_as, answers_user}
+use Rattle.cvm_model.proofs.InvariantsHold.{invariants_hold}
+use Rattle.kernel_theorems.proofs.ComputedDispatches.{rows_join, keeps_as, answers_user}
 use Rattle.kernel_theorems.specs.RoundRobin.{round_robin, data_of, taken_lines, lines_in, turn_after, InOrder, Turns, RunsRoundRobin, IsFair, RoundRobinIsFair}
 
 -- where a dispatch ends: its answer and its data

@@ -19,7 +19,7 @@ use Rattle.cvm_model.specs.Cvm.{System, Cvm, Status, Running, Halted, Faulted, I
 use Rattle.cvm_model.specs.Invariant.{Dispatch, IsTrap, of_begin, of_status, of_turn, dispatches_of}
 use Rattle.kernel_theorems.specs.History.{EachHas}
 use Rattle.kernel_theorems.specs.Traps.{TrapTells, left_by, IsOfStep, StepsTell, StepsLeave, TrapsComeOfSteps}
-use Rattle.kernel_theorems.proofs.Answering.{each_more}
+use Rattle.kernel_theorems.proofs.ComputedDispatches.{each_more}
 
 -- what a step's data tell and what it leaves, where it traps
 record Told (f after : Flat) (cause : Cause) (edata : ℕ) : Type 0 where

@@ -16,7 +16,8 @@ use Rattle.cvm_model.specs.Cvm.{Running, map_of, first_flat, first_core}
 use Rattle.cvm_model.specs.Stands.{UserFits, CoreFits, RunningRelation, runs_user}
 use Rattle.layer_contract.specs.Layer.{Linked, Starts, AfterReset, for_user}
 use Rattle.layer_contract.specs.Follows.{site_of, loaded, SystemFits}
-use Rattle.layer_contract.specs.Samples.{overflowing, plain_word, plain_layer, plain_map, plain_system, AStateStands}
+use Rattle.mips_table.specs.Samples.{overflowing}
+use Rattle.layer_contract.specs.Samples.{plain_word, plain_layer, plain_map, plain_system, AStateStands}
 use Rattle.layer_contract.proofs.UserState.{user_stands}
 use Rattle.layer_contract.proofs.ResetState.{reset_stands}
 use Rattle.layer_contract.proofs.LoadedState.{index_word, loaded_resets}

@@ -1,11 +1,10 @@
 -- Small systems over a layer without code, whose machines stand for their starts.
 use Rattle.std.specs.Prelude.{◌≡◌, codes, true, ℕ, ◌+◌, ◌-◌, ◌*◌, ◌/◌, ◌%◌, ◌==◌, ◌&&◌, nat_le, if◌then◌else◌, List, [], ◌∷◌, ◌++◌, map, replicate, slice_index}
 use Rattle.std.specs.List.{range_with_len}
-use Rattle.mips_table.specs.declared.inst.Inst.TheVariants.{Addi, Ori, Lui}
-use Rattle.mips_table.specs.Encoding.{encoding}
 use Rattle.mips_table.specs.Device.{Environment}
 use Rattle.mips_table.specs.Machine.{State}
-use Rattle.layer_map.specs.declared.params.Params.{Params}
+use Rattle.mips_table.specs.Samples.{overflowing}
+use Rattle.layer_map.specs.Samples.{small_params}
 use Rattle.layer_map.specs.Map.{Map, layer_words, heap_words_at, heap_first_at, stack_first_at, stack_limit_at, heap_at, stack_at, blocks_at}
 use Rattle.layer_map.specs.declared.places.TheConstants.{BLOCK_SIZE, BLOCK_WORDS}
 use Rattle.page_model.specs.Paging.{Paged, MapsTo}
@@ -52,23 +51,15 @@ halting = record {
   } ∷ [];
 }
 
--- the words of a user: lui r1, 0x7fff; ori r1, r1, 0xffff; addi r2, r1, 1
-abbrev pub overflowing : List ℕ
-overflowing = encoding (Lui 1 0x7fff) ∷ encoding (Ori 1 1 0xffff) ∷ encoding (Addi 2 1 1) ∷ []
-
--- pages 4, frames 8, heap 64, stack 256
-abbrev pub params : Params
-params = record { pages = 4; frames = 8; heap = 64; stack = 256 }
-
 -- one user of a page over such a layer, with the kernel above and 100 words of its code
 abbrev pub plain_map : Map
-plain_map = record { params = params; users = 1; code_words = 100; global_words = 1 }
+plain_map = record { params = small_params; users = 1; code_words = 100; global_words = 1 }
 
 abbrev pub plain_system : System
 plain_system = record {
   boot = record {
-    params = params;
-    meaning = kernel_meaning halting params;
+    params = small_params;
+    meaning = kernel_meaning halting small_params;
     words = plain_layer plain_map (1 ∷ []) ++ replicate 100 0;
     users = overflowing ∷ [];
   };
@@ -90,13 +81,13 @@ spread_word k = if k == 0 then 12 else if k == 1024 then 12 else if k == 3072 th
 
 -- the second has one page, which begins with a system call
 abbrev pub spread_map : Map
-spread_map = record { params = record params { frames = 2 }; users = 2; code_words = 100; global_words = 1 }
+spread_map = record { params = record small_params { frames = 2 }; users = 2; code_words = 100; global_words = 1 }
 
 abbrev pub spread_system : System
 spread_system = record {
   boot = record {
-    params = record params { frames = 2 };
-    meaning = kernel_meaning halting (record params { frames = 2 });
+    params = record small_params { frames = 2 };
+    meaning = kernel_meaning halting (record small_params { frames = 2 });
     words = plain_layer spread_map (4 ∷ 1 ∷ []) ++ replicate 100 0;
     users = map spread_word (range_with_len 0 3073) ∷ (12 ∷ []) ∷ [];
   };

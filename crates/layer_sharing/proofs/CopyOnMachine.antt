@@ -29,16 +29,16 @@ use Rattle.cvm_primitives.specs.View.{CopyArgs, UsersIn, number_of_word, SharesF
 use Rattle.cvm_primitives.specs.Code.{vm_copy_code}
 use Rattle.cvm_primitives.specs.Laws.{EnteredOnPages, GoodCopy, first_word, second_word, copy_steps}
 use Rattle.cvm_primitives.specs.Sharing.{EndsWhole, LastShared, last_page}
-use Rattle.cvm_primitives.proofs.Flats.{InLists}
+use Rattle.cvm_primitives.proofs.UserMemories.{InLists}
 use Rattle.cvm_primitives.proofs.ArgumentNumbers.{overlap_is}
 use Rattle.cvm_primitives.proofs.UserLists.{in_lists}
-use Rattle.cvm_primitives.proofs.Copies.{range_below}
+use Rattle.cvm_primitives.proofs.CopyFromArguments.{range_below}
 use Rattle.real_layer.specs.Image.{returning, routine_at, image_site, IsMade}
 use Rattle.real_layer.specs.Runs.{block_world, StaysBetween}
 use Rattle.real_layer.proofs.StandsByFunctions.{Shown, Order, order_of, words_of, behind, word_is, user_fits, pages_agree, shown}
 use Rattle.real_layer.proofs.PartsPlaced.{listed, linked_length}
-use Rattle.real_layer.proofs.Arrivals.{Arrives, contents}
-use Rattle.real_layer.proofs.Exits.{Tools, not_user, Routed, routed, arrives_in}
+use Rattle.real_layer.proofs.RunsBetweenEntries.{Arrives, contents}
+use Rattle.real_layer.proofs.RoutinesAndExits.{Tools, not_user, Routed, routed, arrives_in}
 use Rattle.real_layer.proofs.AfterDispatch.{signed_pos, signed_neg}
 use Rattle.real_layer.proofs.FromUser.{free_block}
 use Rattle.real_layer.proofs.UsersFit.{within}

@@ -20,11 +20,11 @@ use Rattle.cvm_primitives.specs.Code.{first_page_code, find_size_code, check_ran
 use Rattle.cvm_primitives.specs.Sharing.{EndsWhole, LastShared}
 use Rattle.layer_sharing.specs.Passing.{Through, CopyPassed}
 use Rattle.cvm_primitives.proofs.PartStates.{Tests}
-use Rattle.cvm_primitives.proofs.Forms.{from_straight}
+use Rattle.cvm_primitives.proofs.BlocksFromOneState.{from_straight}
 use Rattle.cvm_primitives.proofs.SharedByRoutines.{flag_of, small_is, held_to}
 use Rattle.cvm_primitives.proofs.OnePiece.{run_short}
 use Rattle.cvm_primitives.proofs.ArgumentTests.{product_below, Based, base_from}
-use Rattle.cvm_primitives.proofs.Copies.{numbers_apart, live_range, range_below}
+use Rattle.cvm_primitives.proofs.CopyFromArguments.{numbers_apart, live_range, range_below}
 use Rattle.cvm_primitives.proofs.LastPiece.{loop_ends}
 
 -- the run from the state that is meant, put in the place of the one that is given

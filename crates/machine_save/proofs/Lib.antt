@@ -1,5 +1,5 @@
 pub mod WantedFiles
-pub mod Premises
+pub mod PremisesOfSaves
 pub mod ResumeAnswers
 pub mod SaveCalls
 pub mod ResumeCalls

@@ -1,5 +1,5 @@
-mod Texts
-mod Dispatching
+mod TextIsTree
+mod DispatchesComputed
 mod UserFollows
 mod Property
 mod MailEnds

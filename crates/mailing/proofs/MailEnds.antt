@@ -7,7 +7,7 @@ use Rattle.cvm_model.specs.Kernel.{Core}
 use Rattle.cvm_model.specs.Cvm.{Running, Halted}
 use Rattle.cvm_model.specs.Invariant.{Dispatch, IsSafe}
 use Rattle.cvm_model.specs.Systems.{status_after, lines_taken}
-use Rattle.cvm_model.proofs.Systems.{append_none}
+use Rattle.cvm_model.proofs.SystemsHold.{append_none}
 use Rattle.mailing.specs.Users.{Leg, leg_steps, before_trap, UserProgress, Runs, Waits, Ended, IsProgressOf, steps_at, traps_at, IsStillStepping}
 use Rattle.mailing.specs.Property.{Message, sends, message_numbers, message_ints, held, calls_left, over_of, status_of_users, stand, unsent, sent, StandsSo, IsMailing, IsCarried, IsFinished, turns_for, dispatches_for, MailEnds}
 

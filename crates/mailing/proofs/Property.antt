@@ -20,16 +20,16 @@ use Rattle.cvm_model.specs.declared.row.Next.{Next}
 use Rattle.cvm_model.specs.declared.row.Next.TheVariants.{User, Halt}
 use Rattle.cvm_model.specs.Invariant.{Dispatch, IsTrapOf, with_machine, HasUsers, RunsAreLawful}
 use Rattle.cvm_model.specs.Systems.{SystemProperty, status_after, lines_taken, UsePages, KeepsAll, KeptAllAt, IsSystemInvariant}
-use Rattle.cvm_model.proofs.Systems.{systems_hold, status_join, lines_join, append_none}
+use Rattle.cvm_model.proofs.SystemsHold.{systems_hold, status_join, lines_join, append_none}
 use Rattle.cvm_model.proofs.KeepsSystem.{ComesWithin, keeps_within_by, all_user, all_halt}
 use Rattle.kernel_theorems.specs.UserRuns.{after, told}
-use Rattle.kernel_theorems.proofs.Histories.{one_more}
+use Rattle.kernel_theorems.proofs.OneDispatchMore.{one_more}
 use Rattle.kernel_theorems.proofs.UserRuns.{goes_before, goes_next, its_step, put_in}
 use Rattle.mailing.specs.Tree.{kernel_tree}
 use Rattle.mailing.specs.Users.{Leg, before_trap, UserProgress, Runs, Waits, Ended, machine_at, IsStillStepping, FollowsLegs}
 use Rattle.mailing.specs.Property.{Message, sends, receives, asking_leg, printing_leg, message_numbers, message_ints, AreSmall, Mails, data_of, held, message_number, IsFull, IsEmpty, calls_left, waits_by, over_of, status_of_users, MailState, stand, unsent, sent_by, sent, StandsSo, IsMailing, Mailing, MailIsKept, MailIsPrinted}
-use Rattle.mailing.proofs.Dispatching.{core_of, Gives, Code}
-use Rattle.mailing.proofs.Dispatching as code
+use Rattle.mailing.proofs.DispatchesComputed.{core_of, Gives, Code}
+use Rattle.mailing.proofs.DispatchesComputed as code
 use Rattle.mailing.proofs.UserFollows.{goes_on, is_answered, is_waiting, is_answered_late, is_over, TrapsSo, its_trap, IsThat, is_that}
 
 -- HISTORY with a dispatch more

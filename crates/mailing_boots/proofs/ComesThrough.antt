@@ -9,14 +9,14 @@ use Rattle.c0_meaning.specs.ProgramLaws.{AnswersAheadDontMatter}
 use Rattle.c0_meaning.specs.RunLaws.{HasEnded}
 use Rattle.c0_meaning.specs.UserProgram.{Seen, prog, done}
 use Rattle.cvm_model.specs.Cvm.{first_flat}
-use Rattle.cvm_model.proofs.Systems.{append_none}
+use Rattle.cvm_model.proofs.SystemsHold.{append_none}
 use Rattle.user_c0.specs.Image.{image_words}
 use Rattle.user_c0.specs.Events.{Event, call, replies, call_count, others, untrapped, answer_of, answers}
 use Rattle.user_c0.specs.Program.{EndsBy, steps_of as most_steps}
 use Rattle.user_c0.specs.Users.{UserHasCome, UsersGoOn, IntsAreTold}
 use Rattle.kernel_theorems.specs.UserRuns.{after, told}
 use Rattle.program_systems.specs.Coming.{CallsNext, CallsCome, EndsNext, EndsCome}
-use Rattle.program_systems.proofs.Asking.{replies_call, others_call, untrapped_call}
+use Rattle.program_systems.proofs.ProgramsAskAndEnd.{replies_call, others_call, untrapped_call}
 use Rattle.mailing.specs.Users.{Leg, CallsInTurn}
 use Rattle.mailing_boots.specs.Through.{ints, AreInts, CallsAndReturns, untrapped_in, ComesThrough, ProgramsComeThrough}
 

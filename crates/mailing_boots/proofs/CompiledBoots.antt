@@ -19,7 +19,7 @@ use Rattle.cvm_shell.specs.Programs.{HasProgram, LinkedPrograms}
 use Rattle.kernel_theorems.specs.Text.{MeansProgram}
 use Rattle.program_systems.specs.Counts.{ImagesIgnoreSpans}
 use Rattle.program_systems.proofs.BareImages.{image_is}
-use Rattle.kernel_boots.proofs.Linked.{AreThere, are_there, asks_system}
+use Rattle.kernel_boots.proofs.UsersOfLinked.{AreThere, are_there, asks_system}
 use Rattle.mailing.specs.Text.{text as kernel_text}
 use Rattle.mailing.specs.Users.{ended}
 use Rattle.mailing.specs.Property.{sends, receives}

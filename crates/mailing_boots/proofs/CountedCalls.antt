@@ -8,7 +8,7 @@ use Rattle.cvm_model.specs.Cvm.{first_flat}
 use Rattle.user_c0.specs.Image.{image_words}
 use Rattle.kernel_theorems.specs.UserRuns.{after, told}
 use Rattle.program_systems.specs.Counts.{TrapsThrough, steps_below, CountsTell}
-use Rattle.program_systems.proofs.Parts.{counted_apart}
+use Rattle.program_systems.proofs.StepsOverParts.{counted_apart}
 use Rattle.mailing.specs.Users.{Leg, CallsInTurn}
 use Rattle.mailing_boots.specs.Through.{untrapped_in, IsCountedThrough, CountsTellThrough}
 use Rattle.mailing_boots.specs.Mailers.{zeros, told_for, sender, receiver, one_to_ten, MailersAreCounted}

@@ -1,7 +1,7 @@
 mod ComesThrough
-mod Boots
-mod Mailers
+mod AnyUsersMail
+mod MailersCall
 mod ProgramTexts
-mod Programs
+mod AnyProgramsMail
 mod CompiledBoots
 mod CountedCalls

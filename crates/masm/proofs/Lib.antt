@@ -1,12 +1,12 @@
 pub mod RunsCompose
 pub mod StraightBlocks
-pub mod Jumps
-pub mod Blocks
-pub mod Loops
-pub mod Routines
+pub mod JumpsLead
+pub mod LoopsAndRoutines
+pub mod LoopsPay
+pub mod RulesForRoutines
 pub mod BlocksStand
 mod RegistersStay
-mod Copy
-mod Wait
+mod WordsCopied
+mod WaitEnds
 mod SectorTransfers
-mod Calls
+mod CallsAndReturns

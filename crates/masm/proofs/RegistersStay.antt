@@ -4,7 +4,7 @@ use Rattle.std.proofs.lemmas.Bool.{cond-true, cond-false, and_parts, cases_eq}
 use Rattle.mips_table.specs.declared.inst.Inst.{Inst}
 use Rattle.mips_table.specs.declared.inst.Inst.TheVariants.{Sll, Srl, Sra, Sllv, Srlv, Srav, Addu, Subu, And, Or, Xor, Nor, Slt, Sltu, Addiu, Slti, Sltiu, Andi, Ori, Xori, Lui, Lw, Sw, Mult, Multu, Div, Divu, Mfhi, Mthi, Mflo, Mtlo, Mfc0, Mtc0}
 use Rattle.mips_table.specs.declared.effect.Effect.{Effect}
-use Rattle.mips_table.specs.Code.{put, reg, put_reg, Contents, privileged, effect_at}
+use Rattle.mips_table.specs.Code.{put, reg, put_reg, Contents, specials_after, effect_at}
 use Rattle.masm.specs.Says.{Says, Gives, Widens, Reads, Writes, ReadsDisk, WritesDisk, Hears, Takes, Logs, Asks, register_written, said, falls_through, straight, sayings}
 use Rattle.masm.specs.Stays.{into, all_into, RegistersStay}
 
@@ -61,7 +61,7 @@ module _ (ok : ℕ → Bool) (x : ℕ) (out : ok x ≡ false) where
       (λ nz. ap (λ h. h x) (cond-false _ g (put g r v) (ne_eqb r 0 nz)) ∙ cond-false _ v (g x) (ne_eqb x r (λ e. ⊎_elim (λ o. not_both (ok r) o (ap ok (sym e) ∙ out)) (λ z. nz z) s)))
       (cases_eq r 0)
 
-  asked : (i : Inst) (c : Contents) → ok (into i) ≡ true → (privileged i c).regs x ≡ c.regs x
+  asked : (i : Inst) (c : Contents) → ok (into i) ≡ true → (specials_after i c).regs x ≡ c.regs x
   asked (Mfc0 rt special) c s = other c.regs rt (c.special special) (inl s)
   asked (Mtc0 rt special) c s = refl
   asked i c s = refl

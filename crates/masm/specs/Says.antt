@@ -7,7 +7,7 @@ use Rattle.mips_table.specs.declared.effect.Effect.{Effect}
 use Rattle.mips_table.specs.declared.effect.Effect.TheVariants.{Set, Wide, Load, Store, System}
 use Rattle.mips_table.specs.Device.{Idle, SECTOR, is_buffer}
 use Rattle.mips_table.specs.Machine.{LOG, INPUT}
-use Rattle.mips_table.specs.Code.{put, Contents, with_reg, with_wide, Behind, World, port_loaded, logged, privileged, PrivilegedMay, effect_at}
+use Rattle.mips_table.specs.Code.{put, Contents, with_reg, with_wide, Behind, World, port_loaded, logged, specials_after, PrivilegedMay, effect_at}
 
 -- what an instruction is said to do
 pub data Says : Type 0 where
@@ -71,7 +71,7 @@ said i c e (WritesDisk x v) = record c { memory = put c.memory x v }
 said i c e (Hears x v) = with_reg c (register_written e) v
 said i c e (Takes v) = with_reg c (register_written e) v
 said i c e (Logs v) = c
-said i c e Asks = privileged i c
+said i c e Asks = specials_after i c
 
 -- what is behind the ports after it
 abbrev pub ports_after : Behind → Says → Behind

@@ -9,7 +9,7 @@ use Rattle.std.proofs.lemmas.Bool.{and_from}
 use Rattle.std.proofs.lemmas.Bool.Decides.{nat_tests}
 use Rattle.cvm_text.specs.Hex.{hex8, hex_digit}
 use Rattle.mips_asm.specs.Number.{number_value}
-use Rattle.mips_asm.proofs.Tokens.{token}
+use Rattle.mips_asm.proofs.OperandsStayWhole.{token}
 
 digit_is_hex : (d : ℕ) → d < 16 → is_ascii_hexdigit (hex_digit d) ≡ true
 digit_is_hex d small = grind (arith, nat_tests)

@@ -16,7 +16,7 @@ use Rattle.mips_asm.specs.Number.{number_value, is_decimal, decimal_number, hexa
 use Rattle.mips_asm.specs.Operand.{adds, out, signed_operand, unsigned, register, numbered}
 use Rattle.mips_asm.specs.Listing.{signed_text}
 use Rattle.mips_asm.proofs.PrefixLengths.{both}
-use Rattle.mips_asm.proofs.Tokens.{all_imply}
+use Rattle.mips_asm.proofs.OperandsStayWhole.{all_imply}
 
 digits_pass : (ds : List ℕ) → AllDigits 10 ds → list_all is_ascii_digit ds ≡ true
 digits_pass [] h = refl

@@ -16,13 +16,13 @@ use Rattle.mips_asm.specs.declared.listing.Written.TheVariants as w
 use Rattle.mips_asm.specs.Number.{number_value}
 use Rattle.mips_asm.specs.Text.{trim}
 use Rattle.mips_asm.specs.Operand.{adds, branch_label, jump_label, signed_operand, unsigned, and_register, register, with_base, len_before, in_parentheses, memory, first_bit, reading}
-use Rattle.mips_asm.specs.Line.{word, with_reading, with_operands, operands, word_meaning}
+use Rattle.mips_asm.specs.Line.{word, with_reading, with_operands, operand_texts, word_meaning}
 use Rattle.mips_asm.specs.Listing.{operand_text, listed_operands, signed_text}
-use Rattle.mips_asm.proofs.Tokens.{token, all_imply, all_append, front_len, digit_token, not_blank, trim_token, trim_blank}
+use Rattle.mips_asm.proofs.OperandsStayWhole.{token, all_imply, all_append, front_len, digit_token, not_blank, trim_token, trim_blank}
 use Rattle.mips_asm.proofs.NumbersBack.{signed_back, unsigned_back, register_back, special_back, decimal_digits, decimal_some, decimal_no_name}
 use Rattle.mips_asm.proofs.PrefixLengths.{both}
 use Rattle.std.proofs.lemmas.List.Folds.{list_all-append}
-use Rattle.mips_asm.proofs.Numbers.{all_at}
+use Rattle.mips_asm.proofs.NumbersReadBack.{all_at}
 
 -- the text of a number with a sign
 sign_token : (c : ℕ) → (is_ascii_digit c || c == 45) ≡ true → token c ≡ true
@@ -213,7 +213,7 @@ listed_not_blank : (o : Written) (os : List Written) → Small o → list_all is
 listed_not_blank o os small =
     list_all-append is_ascii_whitespace (operand_text o) (listed_operands (codes ", ") os) ∙ ap (λ b. b && list_all is_ascii_whitespace (listed_operands (codes ", ") os)) (written_not_blank o small)
 
-pub operands_listed : (o : Written) (os : List Written) → Small o → AllSmall os → operands (listed_operands (codes " ") (o ∷ os)) ≡ map (λ o. 32 ∷ operand_text o) (o ∷ os)
+pub operands_listed : (o : Written) (os : List Written) → Small o → AllSmall os → operand_texts (listed_operands (codes " ") (o ∷ os)) ≡ map (λ o. 32 ∷ operand_text o) (o ∷ os)
 operands_listed o os small more =
     ap (λ b. cond b [] (slice_split (λ c. c == 44) (listed_operands (codes " ") (o ∷ os)))) (listed_not_blank o os small) ∙ listed_parts o os small more
 

@@ -18,7 +18,7 @@ use Rattle.mips_asm.specs.Form.{forms, form_of}
 use Rattle.mips_asm.specs.Operand.{first_bit}
 use Rattle.mips_asm.specs.Line.{word, named, instruction, word_meaning}
 use Rattle.mips_asm.specs.Listing.{listed_operands, operands}
-use Rattle.mips_asm.proofs.Tokens.{token}
+use Rattle.mips_asm.proofs.OperandsStayWhole.{token}
 use Rattle.mips_asm.proofs.OperandsBack.{Reads, AllSmall, instruction_back, register_reads, special_reads, amount_reads, code_reads, signed_reads, unsigned_reads, branch_reads, jump_reads, memory_reads}
 
 -- a register before other operands

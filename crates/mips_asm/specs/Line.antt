@@ -53,8 +53,8 @@ with_operands m (k ∷ ks) [] = if may_be_left_out k then with_operands m ks [] 
 with_operands m (k ∷ ks) (t ∷ ts) = with_operands (with_reading m (reading k (trim t))) ks ts
 
 -- the texts of the operands: none in a blank rest, else the parts between the commas
-abbrev pub operands : List ℕ → List (List ℕ)
-operands rest = if list_all is_ascii_whitespace rest then [] else slice_split (λ c. c == 44) rest
+abbrev pub operand_texts : List ℕ → List (List ℕ)
+operand_texts rest = if list_all is_ascii_whitespace rest then [] else slice_split (λ c. c == 44) rest
 
 -- what `.word` gives
 abbrev pub word_directive : Option ℤ → LineMeaning
@@ -73,7 +73,7 @@ mnemonic_len s = if slice_index s 0 == 46 then 1 + prefix_len in_name (drop 1 s)
 
 -- an instruction that has this word where its operands are 0, and these operands
 abbrev pub word_meaning : ℕ → List Operand → List ℕ → LineMeaning
-word_meaning w ks rest = with_operands (word w) ks (operands rest)
+word_meaning w ks rest = with_operands (word w) ks (operand_texts rest)
 
 -- an instruction of a form
 abbrev pub instruction : Option Form → List ℕ → LineMeaning

@@ -5,7 +5,7 @@ ghost use Rattle.mips_asm.specs.Text.{colon_parts, labels_in, after_labels as af
 ghost use Rattle.mips_asm.specs.Text.{is_good_byte as is_good_byte_of, EndAlike, TakesLabel};
 ghost use Rattle.mips_asm.specs.Line.{line_meaning as meaning_of, width as width_of, mnemonic_len as mnemonic_len_of, word_directive as word_directive_of};
 ghost use Rattle.mips_asm.specs.Line.{zero_directive as zero_directive_of, with_reading as with_reading_of, with_operands as with_operands_of};
-ghost use Rattle.mips_asm.specs.Line.{operands as operands_of, may_be_left_out as may_be_left_out_of, instruction as instruction_of, named as named_of};
+ghost use Rattle.mips_asm.specs.Line.{operand_texts as operands_of, may_be_left_out as may_be_left_out_of, instruction as instruction_of, named as named_of};
 ghost use Rattle.mips_asm.specs.Line.{statement as statement_of, of_parts, is_known as is_known_of, left_colon};
 ghost use Rattle.mips_asm.specs.Form.{form_of};
 ghost use Rattle.mips_asm.specs.Number.{in_name as in_name_of};

@@ -37,6 +37,10 @@ due_if x s None = transfer_script (before_count x s).pending (before_count x s).
 unfoldable pub script_of_step : Environment → State → List Call
 script_of_step x s = due_if x s s.off
 
+-- the script of the next step of a machine with these sectors
+abbrev pub held_script : ℕ → Held → List (List ℕ) → List Call
+held_script count old sectors = script_of_step (outside_of old.rows count) (state_of old sectors)
+
 -- the state after the step of a machine with these sectors
 abbrev pub after_step : ℕ → Held → List (List ℕ) → State
 after_step count old sectors = step (outside_of old.rows count) (state_of old sectors)

@@ -19,7 +19,7 @@ use Rattle.mips_table.specs.Fits.{EffectFits, IsWord}
 use Rattle.mips_table.specs.Code.{put, Contents, with_reg, Behind, World, Program, on_flat, Sound, CodeState, at_with, settle, commanded, logged, port_loaded, word_loaded, after_load, after_store, acted, PrivilegedMay, EffectMay, effect_at, act, MayAt, act_at, code_run, MayRun}
 use Rattle.mips_table.specs.Simulation.{contents_of, MemoryHolds, nothing_behind, flat_configuration, FlatFits, flat_after, flat_run, FlatAlong, FlatInstructs, SimulatesFlat}
 use Rattle.mips_table.proofs.DecodingInverts.{decoding-encoding}
-use Rattle.mips_table.proofs.Words.{read_word, goes_on, advances as advanced_fits, effect_fits}
+use Rattle.mips_table.proofs.StepsKeepWords.{read_word, goes_on, advances as advanced_fits, effect_fits}
 use Rattle.mips_table.proofs.ReadableWords.{set_put, write_put, reg_same}
 
 -- a step of the run is the first one and then the others

@@ -13,11 +13,11 @@ use Rattle.mips_table.specs.Fits.{EffectFits, NamesSector, Fits}
 use Rattle.mips_table.specs.Code.{Program, on_machine, Sound, CodeState, settle, acted, EffectMay, effect_at, act, May, MayAt, act_at, code_step, code_run, MayRun}
 use Rattle.mips_table.specs.Simulation.{configuration_of, Quiet, MemoryHolds, DiskServes, raised, Along, Instructs, Simulates}
 use Rattle.mips_table.proofs.DecodingInverts.{decoding-encoding}
-use Rattle.mips_table.proofs.Words.{effect_fits, comes, latches, ComingFits, step_fits}
+use Rattle.mips_table.proofs.StepsKeepWords.{effect_fits, comes, latches, ComingFits, step_fits}
 use Rattle.mips_table.proofs.ReadableWords.{reg_same}
 use Rattle.mips_table.proofs.RunsJoin.{run_first}
 use Rattle.mips_table.proofs.StepsAsCode.{settles}
-use Rattle.mips_table.proofs.Sectors.{settled_names, settled_sectors}
+use Rattle.mips_table.proofs.OneSectorWritten.{settled_names, settled_sectors}
 use Rattle.mips_table.proofs.OneInstruction.{contents, behind, Good, to, below, effects, instruction}
 
 -- the lines of the first step and then of the others

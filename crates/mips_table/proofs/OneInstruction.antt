@@ -16,11 +16,11 @@ use Rattle.mips_table.specs.Device.{Device, Reading, Writing, Environment, BUFFE
 use Rattle.mips_table.specs.declared.special.TheConstants.{SR, MODE, PTO, PTL}
 use Rattle.mips_table.specs.Machine.{LOG, LEFT, INPUT, LOG_ROOM, State, pte_address, translated, located, port_word, read_physical, after_read, read_at, after_read_at, port_written, written, written_at, access, flagged, Coming, Interrupt, Done, privileged, moved, fetch, fetched, coming}
 use Rattle.mips_table.specs.Fits.{EffectFits}
-use Rattle.mips_table.specs.Code.{put, Contents, reg, with_reg, Behind, World, Program, on_machine, Sound, CodeState, settle, commanded, port_loaded, word_loaded, after_load, logged, after_store, privileged as does_privileged, acted, PrivilegedMay, EffectMay}
+use Rattle.mips_table.specs.Code.{put, Contents, reg, with_reg, Behind, World, Program, on_machine, Sound, CodeState, settle, commanded, port_loaded, word_loaded, after_load, logged, after_store, specials_after as does_privileged, acted, PrivilegedMay, EffectMay}
 use Rattle.mips_table.specs.Simulation.{space, contents_of, behind_of, Quiet, MemoryHolds}
 use Rattle.mips_table.proofs.DecodingInverts.{decoding-encoding}
 use Rattle.mips_table.proofs.ReadableWords.{set_put, write_put, reg_same, space_memory, space_buffer, space_sector}
-use Rattle.mips_table.proofs.Sectors.{KeepsSectors, written_keeps}
+use Rattle.mips_table.proofs.OneSectorWritten.{KeepsSectors, written_keeps}
 use Rattle.mips_table.proofs.StepsAsCode.{by_port, by_command, same_port, input_left, input_of_state, input_behind, log_left, log_of_state, log_behind}
 
 -- what a run of code sees of the whole machine

@@ -11,7 +11,7 @@ use Rattle.mips_table.specs.Word.{r_word, i_word, j_word, code_word}
 use Rattle.mips_table.specs.Encoding.{InRange, encoding}
 use Rattle.mips_table.specs.Decoding.{decoding}
 use Rattle.mips_table.specs.Rows.{Decodes, AreInstructions, mnemonic_of, row_index}
-use Rattle.mips_table.proofs.Masks.{under_shift, under_registers, under_jr, under_syscall, under_special, under_jalr, under_sign, under_opcode, under_lui, under_pair, under_target, under_all}
+use Rattle.mips_table.proofs.MaskedWords.{under_shift, under_registers, under_jr, under_syscall, under_special, under_jalr, under_sign, under_opcode, under_lui, under_pair, under_target, under_all}
 
 -- a row without its place in memory
 record Plain : Type 0 where

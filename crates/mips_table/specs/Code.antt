@@ -155,10 +155,10 @@ after_store w n c d k value =
     lost
 
 -- what an instruction on special registers does
-abbrev pub privileged : Inst → Contents → Contents
-privileged (Mfc0 rt special) c = with_reg c rt (c.special special)
-privileged (Mtc0 rt special) c = record c { special = put c.special special (flagged special (reg c.regs rt)) }
-privileged other c = c
+abbrev pub specials_after : Inst → Contents → Contents
+specials_after (Mfc0 rt special) c = with_reg c rt (c.special special)
+specials_after (Mtc0 rt special) c = record c { special = put c.special special (flagged special (reg c.regs rt)) }
+specials_after other c = c
 
 -- what an instruction at n comes to, by its effect
 abbrev pub acted : World → Inst → ℕ → Contents → Behind → Effect → CodeState
@@ -168,7 +168,7 @@ acted w i n c d (Load register address) = settle (n + 1) (with_reg c register (w
 acted w i n c d (Store address value) = after_store w (n + 1) c d (address / 4) value
 acted w i n c d Overflow = at_with n c d
 acted w i n c d Call = at_with n c d
-acted w i n c d System = settle (n + 1) (privileged i c) d
+acted w i n c d System = settle (n + 1) (specials_after i c) d
 
 -- an instruction on special registers may come that leaves sr and the mode as they are
 abbrev pub PrivilegedMay : World → Inst → Type 0

@@ -118,6 +118,10 @@ pub record Conversed (s : State) : Type 0 where
   pub illegal : slice_index s.special 2 ≡ 4
   pub word : slice_index s.special 4 ≡ 0xffffffff
 
+-- a user's words, of which the last overflows: lui r1, 0x7fff; ori r1, r1, 0xffff; addi r2, r1, 1
+abbrev pub overflowing : List ℕ
+overflowing = encoding (Lui 1 0x7fff) ∷ encoding (Ori 1 1 0xffff) ∷ encoding (Addi 2 1 1) ∷ []
+
 -- 7 times -3, and 7 by -3 in whole numbers, and by 0
 abbrev pub dividing : List ℕ
 dividing = frame (encoding (Ori 1 0 7) ∷ encoding (Addiu 2 0 (2 ^ 16 - 3)) ∷ encoding (Mult 1 2) ∷ encoding (Mflo 3) ∷ encoding (Mfhi 4) ∷ encoding (Div 1 2) ∷ encoding (Div 1 0) ∷ [])

@@ -4,7 +4,7 @@ use Rattle.std.proofs.lemmas.Bool.{cases_eq}
 use Rattle.page_model.specs.Paging.{PageLayout, IsUserFrame, IsFrame, next_frame, Protected, MapsTo, Paged, shown_word, Pages, PagingInvariant, IsAccessible}
 use Rattle.page_model.specs.Edits.{Evicted, PagePlaced, Retargeted, PageSet}
 use Rattle.page_model.specs.Faults.{ByFill, Brought}
-use Rattle.page_model.proofs.Edits.{hits, counted_two, shown_valid}
+use Rattle.page_model.proofs.OneEdit.{hits, counted_two, shown_valid}
 use Rattle.page_model.proofs.StepsKeepMemories.{evicted}
 use Rattle.page_model.proofs.MachineMoves.{placed, closed, shares}
 use Rattle.page_model.proofs.AtMostTwoFaults.{filled_last, stays_filled, done, passes_on}

@@ -3,7 +3,7 @@ use Rattle.std.proofs.Common.{◌≡◌, ◌≢◌, ℕ, ◌+◌, ◌*◌, ◌/�
 use Rattle.std.proofs.lemmas.Bool.{cases_eq}
 use Rattle.page_model.specs.Paging.{PageLayout, IsUserFrame, IsFrame, Protected, MapsTo, naming, counted_entries, Paged, shown_word, Pages, PagingInvariant, IsFree}
 use Rattle.page_model.specs.Edits.{SlotsStay, ListFollows, PagePlaced, Retargeted, PageSet}
-use Rattle.page_model.proofs.Edits.{hits, misses, named_by, shown_valid, shown_gone, counted_same, counted_edit, counted_two, counted_none}
+use Rattle.page_model.proofs.OneEdit.{hits, misses, named_by, shown_valid, shown_gone, counted_same, counted_edit, counted_two, counted_none}
 use Rattle.page_model.proofs.NamingLists.{follows_as}
 use Rattle.page_model.proofs.StepsKeepMemories.{shows_on, names_on, edited}
 

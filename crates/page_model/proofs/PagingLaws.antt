@@ -1,6 +1,6 @@
 -- The laws of several lemmas.
 use Rattle.page_model.specs.Laws.{EntriesAreCounted, EntriesShow, FillsStand, ProtectionStands, StoresStand, AlikesStand, HandledPass}
-use Rattle.page_model.proofs.Edits.{hits, misses, named_by, shown_valid, shown_gone, counted_same, counted_edit, counted_one, counted_two, counted_none}
+use Rattle.page_model.proofs.OneEdit.{hits, misses, named_by, shown_valid, shown_gone, counted_same, counted_edit, counted_one, counted_two, counted_none}
 use Rattle.page_model.proofs.MachineMoves.{placed, opened, closed, stored}
 use Rattle.page_model.proofs.HandlerEdits.{fills}
 use Rattle.page_model.proofs.ViewsAlike.{stands_on, brought_on, handled_read}

@@ -3,7 +3,7 @@ use Rattle.std.proofs.Common.{◌≡◌, ◌≢◌, ℕ, zero, suc, ◌+◌, ◌
 use Rattle.std.proofs.lemmas.Bool.{cases_eq}
 use Rattle.page_model.specs.Paging.{PageLayout, IsUserFrame, IsFrame, Protected, MapsTo, naming, counted_entries, Paged, shown_word, Pages, Listed, PagingInvariant, IsFree}
 use Rattle.page_model.specs.Edits.{Edited, Evicted}
-use Rattle.page_model.proofs.Edits.{misses, named_by, shown_valid, shown_gone, validity, counted_edit, counted_none}
+use Rattle.page_model.proofs.OneEdit.{misses, named_by, shown_valid, shown_gone, validity, counted_edit, counted_none}
 use Rattle.page_model.proofs.NamingLists.{list_on, count_on}
 
 -- what another page shows stays, if its entry, its frame and its sector do

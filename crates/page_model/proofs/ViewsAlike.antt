@@ -3,7 +3,7 @@ use Rattle.std.proofs.Common.{◌≡◌, ℕ, ◌+◌, ◌*◌, ◌/◌, ◌%◌
 use Rattle.page_model.specs.Paging.{PageLayout, IsUserFrame, next_frame, counted_entries, private_entry, Paged, Pages, PagingInvariant}
 use Rattle.page_model.specs.Edits.{Alike}
 use Rattle.page_model.specs.Faults.{InPlace, ByFill, Handled, Brought}
-use Rattle.page_model.proofs.Edits.{counted_same}
+use Rattle.page_model.proofs.OneEdit.{counted_same}
 use Rattle.page_model.proofs.StepsKeepMemories.{shows_on, names_on}
 use Rattle.page_model.proofs.AtMostTwoFaults.{passes_on}
 

@@ -2,7 +2,7 @@
 use Rattle.std.proofs.Common.{◌≡◌, ℕ, ◌+◌, ◌*◌, ◌/◌, ◌%◌, ◌<◌, ◌≤◌, true, sym, ap, ◌∙◌, arith}
 use Rattle.page_model.specs.Paging.{PageLayout, IsUserFrame, Valid, MapsTo, counted_entries, Paged, shown_word, Pages, PagingInvariant}
 use Rattle.page_model.specs.Faults.{UserStep, AtMost}
-use Rattle.page_model.proofs.Edits.{shown_valid, shown_gone, counted_none}
+use Rattle.page_model.proofs.OneEdit.{shown_valid, shown_gone, counted_none}
 use Rattle.page_model.proofs.AtMostTwoFaults.{two_faults}
 
 -- AT THE START, after the reset path: no entry is valid, each count is 0, the zero frame is zeros, and each page stands in its sector

@@ -1,3 +1,3 @@
 mod SmallOffsets
-mod Registers
+mod RegistersSaved
 mod UserKept

@@ -5,7 +5,7 @@ use Rattle.cvm_model.specs.Cvm.{first_flat}
 use Rattle.user_c0.specs.Image.{image_words}
 use Rattle.program_systems.specs.Adders.{adder, AddersAreCounted}
 use Rattle.program_systems.specs.Counts.{TrapsThrough, steps_below, CountsTell}
-use Rattle.program_systems.proofs.Parts.{counted_apart}
+use Rattle.program_systems.proofs.StepsOverParts.{counted_apart}
 
 ten : (x : ℕ) → steps_below 133 (first_flat (image_words (adder 10))) (x ∷ []) ≡ Some (120 ∷ 7 ∷ [])
 ten x = counted_apart 16384 19456 133 (first_flat (image_words (adder 10))) (x ∷ []) (120 ∷ 7 ∷ []) refl (omega arith) refl

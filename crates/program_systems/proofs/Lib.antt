@@ -1,9 +1,9 @@
-mod Coming
-mod Dispatches
-pub mod Counting
-pub mod Parts
+mod ProgramsCome
+mod CallerAnswered
+pub mod CountedComes
+pub mod StepsOverParts
 pub mod BareImages
 mod AdderCounts
-mod Adders
+mod AddersCall
 mod AdderTexts
-pub mod Asking
+pub mod ProgramsAskAndEnd

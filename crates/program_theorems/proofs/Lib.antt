@@ -1,4 +1,4 @@
-mod Answering
-mod Ordinary
+mod EventsAnswered
+mod RunInRange
 mod SummingTexts
-mod Summings
+mod SumsTraced

@@ -37,9 +37,9 @@ use Rattle.real_layer.specs.Image.{routine_at, image_site, IsMade}
 use Rattle.real_layer.specs.Runs.{Calm, kept_words, block_world}
 use Rattle.real_layer.proofs.StandsByFunctions.{Shown, Order, order_of, words_of, behind, word_is, cpu_is, user_fits, blocks_agree, pages_agree, shown, stood}
 use Rattle.real_layer.proofs.PartsPlaced.{listed}
-use Rattle.real_layer.proofs.Arrivals.{Below, Arrives, contents}
+use Rattle.real_layer.proofs.RunsBetweenEntries.{Below, Arrives, contents}
 use Rattle.real_layer.proofs.EndingSteps.{Left, single, Gone, goes, left_words, left_behind, comes_by}
-use Rattle.real_layer.proofs.Exits.{Tools, not_user, Routed, routed, arrives_in, comes_off}
+use Rattle.real_layer.proofs.RoutinesAndExits.{Tools, not_user, Routed, routed, arrives_in, comes_off}
 
 -- a word of the map that the layer may change isn't kept
 pub free_own : (y : Site) (memory : List ℕ) (k : ℕ) → k < memory_words y.map → is_own y.map k ≡ true → kept_words y memory k ≡ None

@@ -17,9 +17,9 @@ use Rattle.cvm_model.specs.Stands.{Site}
 use Rattle.layer_contract.specs.Layer.{layer_entry, Inside, FramesStay, command_due, EndsNamed, NoneIsDue, ComesBy, IsEntry}
 use Rattle.real_layer.specs.Runs.{BlockIsLinked, Calm, block_program, StaysBetween}
 use Rattle.real_layer.proofs.StandsByFunctions.{words_of, behind}
-use Rattle.real_layer.proofs.Blocks.{sound, holds}
+use Rattle.real_layer.proofs.BlocksRun.{sound, holds}
 use Rattle.real_layer.proofs.EntryToEntry.{IsApart, no_entry, frames_same, joins, way_from}
-use Rattle.real_layer.proofs.Arrivals.{Below, Arrives, Enters}
+use Rattle.real_layer.proofs.RunsBetweenEntries.{Below, Arrives, Enters}
 
 -- what such a step leaves as it was
 pub record Left (x : Environment) (s t : State) : Type 0 where

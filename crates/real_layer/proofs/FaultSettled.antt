@@ -42,12 +42,12 @@ use Rattle.real_layer.specs.Image.{image_site, IsMade}
 use Rattle.real_layer.specs.Laws.{names_at, handled_steps, FaultsCost}
 use Rattle.real_layer.specs.Runs.{Calm, block_world}
 use Rattle.real_layer.proofs.StandsByFunctions.{Order, order_of, words_of, behind, word_is, cpu_is, user_fits, words_alike, pages_agree, stood_with}
-use Rattle.real_layer.proofs.Blocks.{sound}
+use Rattle.real_layer.proofs.BlocksRun.{sound}
 use Rattle.real_layer.proofs.PartsPlaced.{linked_length}
 use Rattle.real_layer.proofs.EntryToEntry.{joins, way}
-use Rattle.real_layer.proofs.Arrivals.{Below, Arrives, contents, arrives, stands_at}
+use Rattle.real_layer.proofs.RunsBetweenEntries.{Below, Arrives, contents, arrives, stands_at}
 use Rattle.real_layer.proofs.EndingSteps.{Left, single, Gone, goes, left_words, left_behind}
-use Rattle.real_layer.proofs.Exits.{Tools}
+use Rattle.real_layer.proofs.RoutinesAndExits.{Tools}
 use Rattle.real_layer.proofs.AfterDispatch.{left_other, left_sr, left_mode, cpu_by}
 use Rattle.real_layer.proofs.FromReset.{handler, handler_placed, handler_end, free_variable}
 use Rattle.real_layer.proofs.HandlerBegins.{Began, began}

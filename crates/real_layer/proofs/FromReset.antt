@@ -26,13 +26,13 @@ use Rattle.trap_entry.specs.Laws.{IsUnsaved, ResetEntered, ResetEnters as RunsFi
 use Rattle.real_layer.specs.Image.{interrupt_code, image_site, IsMade}
 use Rattle.real_layer.specs.Runs.{BlockIsLinked, Calm, kept_words, block_world}
 use Rattle.real_layer.proofs.StandsByFunctions.{Shown, Order, order_of, words_of, behind, word_is, blocks_agree, pages_agree, shown, stood, layer_inside}
-use Rattle.real_layer.proofs.Blocks.{sound}
+use Rattle.real_layer.proofs.BlocksRun.{sound}
 use Rattle.real_layer.proofs.PartsPlaced.{handler_length, handler_stands, linked_length}
 use Rattle.real_layer.proofs.EntryToEntry.{way}
-use Rattle.real_layer.proofs.Arrivals.{Below, Arrives, contents, arrives, stands_at}
-use Rattle.real_layer.proofs.Exits.{Tools, not_user, calm_of}
+use Rattle.real_layer.proofs.RunsBetweenEntries.{Below, Arrives, contents, arrives, stands_at}
+use Rattle.real_layer.proofs.RoutinesAndExits.{Tools, not_user, calm_of}
 use Rattle.real_layer.proofs.AfterDispatch.{free_own}
-use Rattle.real_layer.proofs.Linked.{image_linked, image_taken}
+use Rattle.real_layer.proofs.ImageIsLinked.{image_linked, image_taken}
 
 -- the handler's instructions
 pub handler_is : (m : Map) → interrupt_code m ≡ handler_code (table_layout m) (handle_page_code (table_layout m))

@@ -35,11 +35,11 @@ use Rattle.trap_entry.specs.Laws.{IsHandled, IsUnsaved, UserEntered, EntersKerne
 use Rattle.real_layer.specs.Image.{image_site, IsMade}
 use Rattle.real_layer.specs.Runs.{Calm, kept_words, block_world}
 use Rattle.real_layer.proofs.StandsByFunctions.{Order, order_of, words_of, behind, word_is, user_fits, pages_agree, stood, layer_inside}
-use Rattle.real_layer.proofs.Blocks.{sound}
+use Rattle.real_layer.proofs.BlocksRun.{sound}
 use Rattle.real_layer.proofs.PartsPlaced.{linked_length}
 use Rattle.real_layer.proofs.EntryToEntry.{way}
-use Rattle.real_layer.proofs.Arrivals.{Below, Arrives, contents, arrives, stands_at}
-use Rattle.real_layer.proofs.Exits.{Tools, not_user}
+use Rattle.real_layer.proofs.RunsBetweenEntries.{Below, Arrives, contents, arrives, stands_at}
+use Rattle.real_layer.proofs.RoutinesAndExits.{Tools, not_user}
 use Rattle.real_layer.proofs.AfterDispatch.{free_own, signed_pos}
 use Rattle.real_layer.proofs.FromReset.{handler, handler_placed, handler_end, page_length, free_variable, at_dispatch}
 use Rattle.real_layer.proofs.HandlerBegins.{BlockHolds, blocks_from, block_from, block_agrees, this_user, other_user, same_words, pages_same, Began, began}

@@ -17,7 +17,7 @@ use Rattle.cvm_primitives.specs.Code.{vm_word_code, vm_put_code, vm_copy_code, v
 use Rattle.cvm_model.specs.Stands.{Site, is_own}
 use Rattle.real_layer.specs.Image.{returning, interrupt_code, routines, code_joined, routine, routine_at, entries, zero_padded, layer_variables, block_words, blocks, second_code, image_site, IsMade}
 use Rattle.real_layer.specs.Runs.{BlockIsLinked}
-use Rattle.real_layer.proofs.Ranges.{all_in, handler_fits, routines_fit}
+use Rattle.real_layer.proofs.LayerInRange.{all_in, handler_fits, routines_fit}
 
 filled_length : (n : ℕ) (ws : List ℕ) → length ws ≤ n → length (zero_padded n ws) ≡ n
 filled_length n ws le = length-append ws (replicate (n - length ws) 0) ∙ omega (arith, length-replicate {A = ℕ} (n - length ws) 0)

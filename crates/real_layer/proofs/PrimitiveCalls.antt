@@ -29,8 +29,8 @@ use Rattle.real_layer.specs.Image.{returning, routine_at, image_site, IsMade}
 use Rattle.real_layer.specs.Runs.{Calm, kept_words, block_world}
 use Rattle.real_layer.proofs.StandsByFunctions.{IsKernels, Order, order_of, behind, word_is, stood, layer_inside}
 use Rattle.real_layer.proofs.EntryToEntry.{way_from}
-use Rattle.real_layer.proofs.Arrivals.{Below, Arrives, contents}
-use Rattle.real_layer.proofs.Exits.{Tools, not_user, Routed, arrives_in}
+use Rattle.real_layer.proofs.RunsBetweenEntries.{Below, Arrives, contents}
+use Rattle.real_layer.proofs.RoutinesAndExits.{Tools, not_user, Routed, arrives_in}
 use Rattle.real_layer.proofs.AfterDispatch.{free_own}
 use Rattle.real_layer.proofs.UsersFit.{HasWord, prim_fits}
 

@@ -10,7 +10,7 @@ use Rattle.cvm_model.specs.Primitives.{user_of}
 use Rattle.cvm_model.specs.Cvm.{System, Cvm, Status, Running, Halted, Faulted, Interrupts, user_step, begun, cvm, turn, turn_by, dispatch_of, after_dispatch}
 use Rattle.cvm_model.specs.Invariant.{Dispatch, made_by, of_begin, of_status, of_turn, dispatches_of, IsTrap}
 use Rattle.cvm_model.specs.Systems.{lines_taken}
-use Rattle.cvm_model.proofs.Systems.{lines_join, append_none, TrapsOf, step_traps}
+use Rattle.cvm_model.proofs.SystemsHold.{lines_join, append_none, TrapsOf, step_traps}
 use Rattle.run_bounds.specs.Lines.{are_some, turns_with_lines, LinesTakenAreFew}
 
 -- 1 where some are pending

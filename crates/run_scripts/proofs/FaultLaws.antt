@@ -8,7 +8,7 @@ use Rattle.cvm_outside.specs.Numbering.{called}
 use Rattle.cvm_outside.specs.Outside.{Outside, Output, Drive, counts}
 use Rattle.cvm_outside.specs.Script.{Call, Who, TheSink, TheDisk, TheShelf, Performs, disk_calls, sectors_after}
 use Rattle.cvm_outside.specs.ScriptLaws.{ScriptsBlame, ScriptsCount}
-use Rattle.cvm_outside.proofs.Parts.{append_known-nil}
+use Rattle.cvm_outside.proofs.PartsMakeTheWhole.{append_known-nil}
 use Rattle.kernel_linker.specs.Accept.{ImageSystem}
 use Rattle.schedule_file.specs.Rows.{Rows}
 use Rattle.layer_contract.specs.Starts.{Beyond}
@@ -32,17 +32,17 @@ use Rattle.run_scripts.specs.Faults.{PrintedWithin, Stand, CalledBy, AfterSink, 
 use Rattle.run_scripts.proofs.SectorsBehind.{load_calls_disk, stand_behind, sink_behind, disk_behind}
 use Rattle.run_scripts.proofs.BrokenScripts.{AllOf}
 use Rattle.run_scripts.proofs.ScriptCalls.{plain_load}
-use Rattle.run_scripts.proofs.Causes.{mid_disk}
+use Rattle.run_scripts.proofs.StatusesCaused.{mid_disk}
 use Rattle.run_scripts.proofs.ResumeScripts.{got_keeps}
 use Rattle.run_scripts.specs.Keys.{ScriptLaws}
 use Rattle.run_scripts.proofs.RunKeys.{known, loads_store_the_start, sectors_behind_stay}
 use Rattle.run_scripts.proofs.OneCommand.{one_command}
 use Rattle.run_scripts.proofs.RowsAlongRuns.{Known}
-use Rattle.run_scripts.proofs.Refusals.{plan_asks}
-use Rattle.run_scripts.proofs.Reports.{run_tells}
+use Rattle.run_scripts.proofs.NothingElseRefused.{plan_asks}
+use Rattle.run_scripts.proofs.ReportsTell.{run_tells}
 use Rattle.run_scripts.proofs.RunFaults.{Stands, more, broken_within, run_unsaid, run_undone}
 use Rattle.run_scripts.proofs.SaveFaults.{save_undone, save_unsaid, save_unput, save_spent}
-use Rattle.run_scripts.proofs.Saves.{told_asks}
+use Rattle.run_scripts.proofs.SavesComplete.{told_asks}
 use Rattle.run_scripts.proofs.StoredRuns.{run_leaves}
 use Rattle.run_scripts.proofs.ScriptsTell.{Tells, quiet_load}
 

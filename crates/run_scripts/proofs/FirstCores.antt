@@ -9,7 +9,7 @@ use Rattle.layer_map.specs.Map.{next_page}
 use Rattle.c0_meaning.specs.Ty.{Ty}
 use Rattle.c0_meaning.specs.Ty as ty
 use Rattle.c0_meaning.specs.Env.{Typed, Shape, typed_of}
-use Rattle.c0_meaning.specs.Words.{fields_named, holds, all_words}
+use Rattle.c0_meaning.specs.Words.{shape_fields, holds, all_words}
 use Rattle.c0_meaning.specs.RunLaws.{ZeroHasWords, all_scalars}
 use Rattle.c0_meaning.specs.Sound.{shapes}
 use Rattle.c0_meaning.specs.Value.{Location, Value, group, empty, repeated, zero_with, zeros_with, zero_within, zeros_of}
@@ -54,9 +54,9 @@ module _ (address : Location → ℕ) where
   within_zeros (suc depth) structs x = by_test (holds structs x x) (λ y. within_zeros depth structs y)
     where
       by_test : (b : Bool) → ((y : List ℕ) → AreZeros (flat address (zero_within depth structs y)))
-          → AreZeros (flat address (if b then group empty else group (zeros_with (zero_within depth structs) (fields_named structs x))))
+          → AreZeros (flat address (if b then group empty else group (zeros_with (zero_within depth structs) (shape_fields structs x))))
       by_test true h = All-nil (λ w. w ≡ 0)
-      by_test false h = all_zeros (zero_within depth structs) h (fields_named structs x)
+      by_test false h = all_zeros (zero_within depth structs) h (shape_fields structs x)
 
   globals_zeros : (structs : List Shape) (ds : List Typed) → AreZeros (flats address (zeros_of structs ds))
   globals_zeros structs ds = all_zeros (zero_within (length structs) structs) (λ x. within_zeros (length structs) structs x) ds

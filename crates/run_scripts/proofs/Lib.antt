@@ -1,15 +1,15 @@
 pub mod GetsKeep
 pub mod ResumeScripts
-pub mod Headlines
-mod Schedules
+pub mod EachHeadline
+mod SchedulesPromise
 mod LayerWords
 pub mod FirstCores
 pub mod SystemsFollow
-pub mod Accepted
+pub mod AcceptedImages
 pub mod RunsStart
 pub mod RowsAlongRuns
 pub mod ScriptsTell
-pub mod Reports
+pub mod ReportsTell
 pub mod ScriptsMadeOf
 mod LastingProperties
 pub mod ScriptsStore
@@ -19,13 +19,13 @@ pub mod RunKeys
 pub mod OneCommand
 pub mod CommandOutcomes
 pub mod ScriptCalls
-pub mod Shapes
-pub mod Causes
-pub mod Refusals
-pub mod Completes
-pub mod Saves
+pub mod CallsOfCommands
+pub mod StatusesCaused
+pub mod NothingElseRefused
+pub mod RunsComplete
+pub mod SavesComplete
 pub mod PlansAreAsked
-pub mod Isolates
+pub mod TracesIsolate
 pub mod BrokenScripts
 pub mod SectorsBehind
 pub mod RunFaults
@@ -37,7 +37,7 @@ mod SavesJoin
 mod PerformedScripts
 mod SavedMachines
 mod SavesHold
-mod Resuming
+mod ResumesGoOn
 mod ResumedMachines
 mod OtherDisks
 pub mod RunPromises

@@ -44,22 +44,22 @@ use Rattle.run_scripts.specs.Keys.{LawsOfRuns, ScriptLaws}
 use Rattle.run_scripts.specs.Served.{NoneFailed, ShelfServes, AreSurelyGiven}
 use Rattle.run_scripts.specs.Promises.{SavesAreHeld, SavesAreComplete, ResumesAreHeld, ResumesAreComplete}
 use Rattle.run_scripts.proofs.PlansAreAsked.{asked_save, asked_resume}
-use Rattle.run_scripts.proofs.Causes.{mid_disk}
-use Rattle.run_scripts.proofs.Completes.{run_done, it_goes_on}
+use Rattle.run_scripts.proofs.StatusesCaused.{mid_disk}
+use Rattle.run_scripts.proofs.RunsComplete.{run_done, it_goes_on}
 use Rattle.run_scripts.proofs.ResumeScripts.{saved_joins}
 use Rattle.run_scripts.proofs.RunKeys.{known, ends_are_over, sectors_behind_stay}
 use Rattle.run_scripts.proofs.RowsAlongRuns.{Known, founded}
 use Rattle.run_scripts.proofs.PerformedScripts.{Says, says_text, leaves_sectors}
 use Rattle.run_scripts.proofs.RunPromises.{told_disk, was_done, plan_finds, ran, headline_told}
-use Rattle.run_scripts.proofs.Refusals.{none_blamed}
+use Rattle.run_scripts.proofs.NothingElseRefused.{none_blamed}
 use Rattle.run_scripts.proofs.OtherDisks.{with_disk, other_disk}
-use Rattle.run_scripts.proofs.Reports.{rest_tells}
+use Rattle.run_scripts.proofs.ReportsTell.{rest_tells}
 use Rattle.run_scripts.proofs.SavedMachines.{saved_at, FileLaws}
 use Rattle.run_scripts.proofs.TurnsRise.{no_later}
 use Rattle.run_scripts.proofs.StoredRuns.{rest_leaves}
 use Rattle.run_scripts.proofs.SavesHold.{saves_hold}
-use Rattle.run_scripts.proofs.Resuming.{resumes_go_on}
-use Rattle.run_scripts.proofs.Saves.{saves_complete}
+use Rattle.run_scripts.proofs.ResumesGoOn.{resumes_go_on}
+use Rattle.run_scripts.proofs.SavesComplete.{saves_complete}
 use Rattle.cvm_outside.specs.Causes.{Rose}
 use Rattle.run_scripts.proofs.OneCommand.{one_command}
 

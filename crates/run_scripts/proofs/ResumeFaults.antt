@@ -40,7 +40,7 @@ use Rattle.run_scripts.proofs.ScriptsMadeOf.{of_report, of_rows}
 use Rattle.run_scripts.proofs.RowsAlongRuns.{Known}
 use Rattle.run_scripts.proofs.PerformedScripts.{says_text}
 use Rattle.run_scripts.proofs.OtherDisks.{with_disk, other_disk}
-use Rattle.run_scripts.proofs.Reports.{rest_tells}
+use Rattle.run_scripts.proofs.ReportsTell.{rest_tells}
 use Rattle.run_scripts.proofs.RunFaults.{disk_due}
 use Rattle.run_scripts.proofs.TurnsRise.{no_later}
 use Rattle.run_scripts.proofs.StoredRuns.{quiet, steps_leave, rest_leaves}

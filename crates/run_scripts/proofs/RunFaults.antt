@@ -11,7 +11,7 @@ use Rattle.cvm_outside.specs.Told.{AppendsPart}
 use Rattle.cvm_outside.specs.Outside.{Outside, Output}
 use Rattle.cvm_outside.specs.Script.{Call, Read, Who, TheSink, TheDisk, Performs, WritesNoSector, scripts, spoken, sectors_after}
 use Rattle.cvm_outside.specs.ScriptLaws.{ScriptsTell, ScriptsStore, PrintedBy}
-use Rattle.cvm_outside.proofs.Parts.{append_known-append}
+use Rattle.cvm_outside.proofs.PartsMakeTheWhole.{append_known-append}
 use Rattle.cvm_outside.proofs.ScriptsFollow.{both}
 use Rattle.cvm_outside.proofs.RowsPut.{unwritten}
 use Rattle.layer_map.specs.Map.{Map}
@@ -40,7 +40,7 @@ use Rattle.run_scripts.proofs.BrokenScripts.{AllOf, Broken, in_first, in_second,
 use Rattle.run_scripts.proofs.ScriptsMadeOf.{of_opening, of_report, of_row, of_rows, of_scripts}
 use Rattle.boot_run.proofs.AbstractRuns.{on_before, turns_up_to}
 use Rattle.run_scripts.proofs.RowsAlongRuns.{Known, journal_grows}
-use Rattle.run_scripts.proofs.Reports.{closing_tells, behind_last}
+use Rattle.run_scripts.proofs.ReportsTell.{closing_tells, behind_last}
 use Rattle.run_scripts.proofs.StoredRuns.{quiet, steps_leave}
 use Rattle.boot_run.proofs.LoadStores.{stored-append}
 use Rattle.run_scripts.proofs.ScriptsStore.{quiet_stores, step_stores}

@@ -34,12 +34,12 @@ use Rattle.run_scripts.proofs.PromisesByRuns.{Headline, Isolated, Sectors}
 use Rattle.run_scripts.specs.Served.{NoneFailed, ShelfServes, AreSurelyGiven}
 use Rattle.run_scripts.specs.Promises.{HeadlinesHold, RunsAreComplete, TracesAreIsolated}
 use Rattle.run_scripts.proofs.PlansAreAsked.{asked_plan}
-use Rattle.run_scripts.proofs.Refusals.{no_file_failed}
+use Rattle.run_scripts.proofs.NothingElseRefused.{no_file_failed}
 use Rattle.cvm_model.specs.KernelMeaning.{UnitsReplay}
-use Rattle.run_scripts.proofs.Completes.{it_goes_on, runs_complete}
-use Rattle.run_scripts.proofs.Isolates.{traces_isolate}
+use Rattle.run_scripts.proofs.RunsComplete.{it_goes_on, runs_complete}
+use Rattle.run_scripts.proofs.TracesIsolate.{traces_isolate}
 use Rattle.run_scripts.specs.Keys.{ScriptLaws}
-use Rattle.run_scripts.proofs.Headlines.{headlines}
+use Rattle.run_scripts.proofs.EachHeadline.{headlines}
 use Rattle.cvm_outside.specs.Causes.{Rose}
 use Rattle.run_scripts.specs.Command.{Command, IsCommand, boot, trace, sample}
 use Rattle.run_scripts.proofs.OneCommand.{one_command}

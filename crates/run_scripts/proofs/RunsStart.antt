@@ -29,7 +29,7 @@ use Rattle.kernel_linker.specs.Linked.{linked, pages_for, sizes_of, map_for}
 use Rattle.kernel_linker.specs.Laws.{ImageFits, SpelledImagesFit}
 use Rattle.kernel_linker.specs.Sources.{IsOfImage, AcceptedAreOfImages}
 use Rattle.kernel_linker.specs.declared.fault.AcceptFault.{AcceptFault}
-use Rattle.boot_run.proofs.Premises.{RowsFit}
+use Rattle.boot_run.proofs.PremisesOfBoots.{RowsFit}
 use Rattle.run_scripts.specs.declared.session.Session.{Session}
 use Rattle.run_scripts.specs.declared.session.StartPoint.{StartPoint}
 use Rattle.run_scripts.specs.declared.session.StartPoint.TheVariants.{Loaded, Rom}
@@ -39,8 +39,8 @@ use Rattle.run_scripts.specs.SessionRuns.{run_of}
 use Rattle.run_scripts.specs.Keys.{IsStarted}
 use Rattle.run_scripts.proofs.FirstCores.{its_map}
 use Rattle.run_scripts.proofs.SystemsFollow.{UnitLaws, IsWhole, range, same_map, site_laws, follows, words_are, long}
-use Rattle.run_scripts.proofs.Schedules.{rows_ordered, rows_fit}
-use Rattle.run_scripts.proofs.Accepted.{IsAccepted}
+use Rattle.run_scripts.proofs.SchedulesPromise.{rows_ordered, rows_fit}
+use Rattle.run_scripts.proofs.AcceptedImages.{IsAccepted}
 
 -- what stands behind a step that went well
 behind : (step : Result (Unit {0}) AcceptFault) (t s : ImageSystem) → (step >>= λ same. Ok t) ≡ Ok s → t ≡ s

@@ -23,7 +23,7 @@ use Rattle.run_scripts.specs.Faults.{IsLeft}
 use Rattle.run_scripts.proofs.PromisesByRuns.{IsSaved, IsUnsaved, SavesHold}
 use Rattle.run_scripts.proofs.BrokenScripts.{both_done}
 use Rattle.run_scripts.proofs.ScriptCalls.{Plain, plain, plain_both, plain_write, plain_load, plain_stays}
-use Rattle.run_scripts.proofs.Causes.{mid_disk}
+use Rattle.run_scripts.proofs.StatusesCaused.{mid_disk}
 use Rattle.run_scripts.proofs.SavesJoin.{saved_front}
 use Rattle.run_scripts.proofs.ResumeScripts.{got_keeps}
 use Rattle.run_scripts.proofs.RunKeys.{known, ends_are_over, loads_store_the_start, scripts_store_the_sectors, sectors_behind_stay}
@@ -31,11 +31,11 @@ use Rattle.run_scripts.proofs.ScriptsMadeOf.{of_run, of_steps}
 use Rattle.run_scripts.proofs.RowsAlongRuns.{Known}
 use Rattle.run_scripts.specs.Keys.{ScriptLaws}
 use Rattle.run_scripts.proofs.PerformedScripts.{says_text, leaves_sectors, file_then_row}
-use Rattle.run_scripts.proofs.Reports.{run_tells}
-use Rattle.run_scripts.proofs.Refusals.{none_blamed, status_due, plan_asks, no_file_failed}
+use Rattle.run_scripts.proofs.ReportsTell.{run_tells}
+use Rattle.run_scripts.proofs.NothingElseRefused.{none_blamed, status_due, plan_asks, no_file_failed}
 use Rattle.run_scripts.proofs.SavedMachines.{FileLaws, file_fits}
-use Rattle.run_scripts.proofs.Saves.{told_asks}
-use Rattle.run_scripts.proofs.Shapes.{others_stay}
+use Rattle.run_scripts.proofs.SavesComplete.{told_asks}
+use Rattle.run_scripts.proofs.CallsOfCommands.{others_stay}
 use Rattle.run_scripts.proofs.StoredRuns.{steps_leave}
 use Rattle.boot_run.proofs.LoadStores.{stored-append}
 use Rattle.run_scripts.proofs.ScriptsStore.{quiet_stores}

@@ -8,7 +8,7 @@ use Rattle.cvm_outside.specs.Told.{Tells}
 use Rattle.cvm_outside.specs.Outside.{Outside, Output}
 use Rattle.cvm_outside.specs.Script.{Call, Who, TheShelf, Performs, done as all_done, breaks, goes_on}
 use Rattle.cvm_outside.specs.ScriptLaws.{ScriptsBlame}
-use Rattle.cvm_outside.proofs.Parts.{append_known-nil}
+use Rattle.cvm_outside.proofs.PartsMakeTheWhole.{append_known-nil}
 use Rattle.layer_map.specs.Map.{Map}
 use Rattle.c0_tree.specs.Tree.{CUnit}
 use Rattle.c0_types.specs.Front.{IsFrontAnswer}
@@ -43,7 +43,7 @@ use Rattle.run_scripts.specs.Ends.{PlanAsks, done, no_file, no_memory}
 use Rattle.run_scripts.specs.Served.{files_of, gets}
 use Rattle.run_scripts.specs.Promises.{YesIsEnough}
 use Rattle.run_scripts.proofs.BrokenScripts.{nothing_moves}
-use Rattle.run_scripts.proofs.Causes.{mid_disk}
+use Rattle.run_scripts.proofs.StatusesCaused.{mid_disk}
 use Rattle.run_scripts.proofs.GetsKeep.{wanted}
 use Rattle.run_scripts.proofs.OneCommand.{its_plan}
 

@@ -8,7 +8,7 @@ use Rattle.mips_table.specs.Machine.{State}
 use Rattle.mips_machine.specs.Saved.{MARK, two_words, head, saved, CanBeSaved, AreSaved, SavedIsAccepted}
 use Rattle.saved_file.specs.Resumable.{Wanted, CanBeResumed, memory_word, saved_size_at}
 use Rattle.saved_file.specs.Answer.{answer, IsOfRun, SavedIsReadBack}
-use Rattle.saved_file.proofs.Fitting.{resumables}
+use Rattle.saved_file.proofs.AllTestsPass.{resumables}
 
 -- a word behind a part
 behind : (a b : List ℕ) (n i k : ℕ) → length a ≡ n → k ≡ n + i → slice_index (a ++ b) k ≡ slice_index b i

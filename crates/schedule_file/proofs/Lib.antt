@@ -1,5 +1,5 @@
 pub mod ReadIsSpelling
 pub mod OneLineMore
 pub mod RowsSought
-pub mod Spelled
-pub mod Words
+pub mod SpelledIsRead
+pub mod WordsOfRows

@@ -12,7 +12,7 @@ use Rattle.schedule_file.specs.declared.row.Row.TheVariants.{Line, Busy, Input}
 use Rattle.cvm_text.specs.Lines.{number_spelled}
 use Rattle.schedule_file.specs.Text.{row_of_words, row_of_pair, row_in_words, row_of}
 use Rattle.schedule_file.specs.Spelling.{spelling, RowFits, IsSpelled}
-use Rattle.schedule_file.proofs.Words.{words}
+use Rattle.schedule_file.proofs.WordsOfRows.{words}
 
 -- what `whole_numbers_are_spelled` says
 abbrev WholeNumbers : Type 0

@@ -1,1 +1,1 @@
-mod Surely
+mod SureStatuses

@@ -1,8 +1,8 @@
 mod Property
-mod Users
+mod UsersCall
 mod SummingBoots
-mod Texts
-mod Reports
+mod TextIsTree
+mod ReportComputes
 mod StepCounts
-mod Programs
-mod Compiled
+mod AnyProgramsSum
+mod CompiledSumsBoot

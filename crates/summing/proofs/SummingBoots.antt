@@ -20,8 +20,8 @@ use Rattle.run_scripts.specs.declared.exit_status.Status.TheVariants.{Done}
 use Rattle.run_scripts.specs.Boot.{booted, environment_of, start_state, steps_before}
 use Rattle.kernel_theorems.specs.Text.{Means}
 use Rattle.kernel_boots.specs.Systems.{SystemEndsWithin, HasHalted, SystemShown}
-use Rattle.kernel_boots.proofs.Boots.{asked_read}
-use Rattle.kernel_boots.proofs.Systems.{asks_source, asked_users, stopped, systems_boot}
+use Rattle.kernel_boots.proofs.StatesShown.{asked_read}
+use Rattle.kernel_boots.proofs.SystemsBoot.{asks_source, asked_users, stopped, systems_boot}
 use Rattle.summing.specs.Tree.{kernel_tree}
 use Rattle.summing.specs.Text.{text as kernel_text}
 use Rattle.kernel_theorems.specs.UserRuns.{after, CallsAfter}
@@ -29,7 +29,7 @@ use Rattle.summing.specs.Property.{RunsSumming, data_of, Phase, Nobody, FirstOnl
 use Rattle.summing.specs.Users.{user_one, user_two, UsersCall}
 use Rattle.summing.specs.Boots.{report_of, last_report, SumShown, AnyUsersSum, NamedSumShown, SummingBoots}
 use Rattle.summing.proofs.Property.{invariant}
-use Rattle.summing.proofs.Reports.{reports}
+use Rattle.summing.proofs.ReportComputes.{reports}
 
 abbrev runs : (one two : List ℕ) (m n v w : ℕ) → CallsAfter (first_flat one) m v → CallsAfter (first_flat two) n w → v + w < 2 ^ 31
     → (y : System) → y.boot.meaning ≡ kernel_meaning kernel_tree y.boot.params → y.boot.users ≡ one ∷ two ∷ [] → 8 ≤ y.boot.params.stack → RunsSumming y m n v w

@@ -8,7 +8,7 @@ use Rattle.masm.specs.Says.{Gives, WritesDisk}
 use Rattle.masm.specs.Laws.{From}
 use Rattle.masm.specs.Stays.{RegistersStay}
 use Rattle.masm.specs.Wait.{Waited, TransfersRun}
-use Rattle.masm.proofs.Routines.{from_straight, from_then, from_later, straight_then}
+use Rattle.masm.proofs.RulesForRoutines.{from_straight, from_then, from_later, straight_then}
 use Rattle.masm.specs.Frames.{HasDisk, SwappedOut}
 use Rattle.swap_layer.specs.Code.{move_words_code, name_sector_code, give_command_code, swap_out_code, read_sector_code, copy_to_frame_code, swap_in_code}
 use Rattle.swap_layer.specs.declared.swap.TheConstants.{FROM_FRAME_TO_BUFFER, FROM_BUFFER, TO_FRAME}

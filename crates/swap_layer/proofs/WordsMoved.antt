@@ -8,7 +8,7 @@ use Rattle.mips_table.specs.Code.{put, with_reg, Contents, Behind, World, Sound,
 use Rattle.masm.specs.Says.{Says, Gives, Reads, Writes, ReadsDisk, WritesDisk}
 use Rattle.masm.specs.Laws.{From}
 use Rattle.masm.specs.Stays.{RegistersStay}
-use Rattle.masm.proofs.Routines.{from_straight, does_from, from_does, follows, weaker, loop_goes}
+use Rattle.masm.proofs.RulesForRoutines.{from_straight, does_from, from_does, follows, weaker, loop_goes}
 use Rattle.swap_layer.specs.Code.{move_words_code}
 use Rattle.swap_layer.specs.Laws.{MoveAsked, WordsMoved, MovesRun}
 use Rattle.swap_layer.proofs.SmallOffsets.{put_same, put_other, small_is, disk_is, place_top}

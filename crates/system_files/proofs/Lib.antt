@@ -1,4 +1,4 @@
-pub mod Inverse
-pub mod Lines
-pub mod Read
-mod Faults
+pub mod ReadIsSpelled
+pub mod LinesOfTexts
+pub mod SpelledIsRead
+mod FirstTextFault

@@ -11,7 +11,7 @@ use Rattle.layer_map.specs.Map.{current_at, block_at}
 use Rattle.masm.specs.Blocks.{when_code}
 use Rattle.masm.specs.Says.{Gives, Widens, Reads, Writes, Asks}
 use Rattle.masm.specs.Laws.{RunsCompose, WhenRuns, From}
-use Rattle.masm.proofs.Routines.{from_straight, from_later, straight_then}
+use Rattle.masm.proofs.RulesForRoutines.{from_straight, from_later, straight_then}
 use Rattle.page_model.specs.TableLayout.{TableLayout}
 use Rattle.pcb_layer.specs.Code.{find_control_block_code, restore_user_code}
 use Rattle.pcb_layer.specs.Laws.{UserRestored, RestoresUser}

@@ -7,7 +7,7 @@ use Rattle.mips_table.specs.declared.special.TheConstants.{ECA, EDATA, PTL}
 use Rattle.mips_table.specs.Code.{Contents, Behind, World, Sound}
 use Rattle.masm.specs.Says.{Gives, Asks}
 use Rattle.masm.specs.Laws.{From}
-use Rattle.masm.proofs.Routines.{from_straight, from_then}
+use Rattle.masm.proofs.RulesForRoutines.{from_straight, from_then}
 use Rattle.pcb_layer.specs.Code.{saved_at, save_registers_code}
 use Rattle.pcb_layer.specs.Laws.{IsRegister, HasSaveArea, MaySave, Saved, SavesRegisters}
 use Rattle.trap_entry.specs.Code.{is_page_fault_code, save_and_classify_code}

@@ -9,7 +9,7 @@ use Rattle.layer_map.specs.Map.{hand_at}
 use Rattle.masm.specs.Blocks.{when_code}
 use Rattle.masm.specs.Says.{Gives, Asks}
 use Rattle.masm.specs.Laws.{RunsCompose, WhenRuns, From}
-use Rattle.masm.proofs.Routines.{from_then, from_later, straight_then}
+use Rattle.masm.proofs.RulesForRoutines.{from_then, from_later, straight_then}
 use Rattle.page_model.specs.Paging.{Pages, Paged, PagingInvariant}
 use Rattle.page_model.specs.Edits.{Alike}
 use Rattle.page_model.specs.Faults.{Brought}

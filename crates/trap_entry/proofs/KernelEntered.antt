@@ -9,7 +9,7 @@ use Rattle.layer_map.specs.Map.{current_at}
 use Rattle.masm.specs.Blocks.{when_code}
 use Rattle.masm.specs.Says.{Reads, Asks}
 use Rattle.masm.specs.Laws.{RunsCompose, JumpsLead, WhenRuns, From}
-use Rattle.masm.proofs.Routines.{from_straight, from_then, from_later, from_when, straight_then}
+use Rattle.masm.proofs.RulesForRoutines.{from_straight, from_then, from_later, from_when, straight_then}
 use Rattle.page_model.specs.TableLayout.{TableLayout}
 use Rattle.pcb_layer.specs.Code.{restore_registers_code, save_user_code}
 use Rattle.pcb_layer.specs.Laws.{HasSaveArea, MaySave, IsCurrent, MayKeep, InControlBlock, SavesRegisters, KeepsUser}

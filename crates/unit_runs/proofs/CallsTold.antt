@@ -34,9 +34,9 @@ use Rattle.cvm_model.specs.Stands.{Site}
 use Rattle.unit_runs.specs.Held.{HeldIsFlat}
 use Rattle.unit_runs.specs.Placed.{program, CodeStands}
 use Rattle.unit_runs.proofs.HowFar.{RunsJoin}
-use Rattle.unit_runs.proofs.Counting.{none_some, IsElsewhere, counts_last}
+use Rattle.unit_runs.proofs.PrimitivesCounted.{none_some, IsElsewhere, counts_last}
 use Rattle.unit_runs.proofs.PrimitivesPass.{Ground}
-use Rattle.unit_runs.proofs.Runs.{RunTo}
+use Rattle.unit_runs.proofs.MeaningOnMachine.{RunTo}
 use Rattle.unit_runs.proofs.DispatchEnds.{left, at_exit}
 
 -- a machine that rests isn't inside

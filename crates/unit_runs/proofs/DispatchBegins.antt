@@ -47,13 +47,13 @@ use Rattle.unit_runs.specs.Outer.{Outer}
 use Rattle.unit_runs.specs.Placed.{program, CodeStands}
 use Rattle.c0_meaning.specs.CallChain.{dispatch_number}
 use Rattle.unit_runs.specs.Host.{CountsCalls}
-use Rattle.unit_runs.proofs.Instructions.{piece_at, not_own, kept_past, kept_words}
+use Rattle.unit_runs.proofs.CodeOnMachine.{piece_at, not_own, kept_past, kept_words}
 use Rattle.unit_runs.proofs.UsersSeen.{space_is}
-use Rattle.unit_runs.proofs.Standing.{seen, behind, no_user, outer_of}
+use Rattle.unit_runs.proofs.StandingIsSeen.{seen, behind, no_user, outer_of}
 use Rattle.unit_runs.proofs.HowFar.{RunsJoin, Reached, inside_of, instructs_named, goes_on}
-use Rattle.unit_runs.proofs.Counting.{IsElsewhere, begins, counts_along, counts_on}
-use Rattle.unit_runs.proofs.Site.{setup}
-use Rattle.unit_runs.proofs.Flat.{flat_scalars}
+use Rattle.unit_runs.proofs.PrimitivesCounted.{IsElsewhere, begins, counts_along, counts_on}
+use Rattle.unit_runs.proofs.SiteStays.{setup}
+use Rattle.unit_runs.proofs.HeldStandAsWords.{flat_scalars}
 use Rattle.unit_runs.proofs.PrimitivesPass.{Ground, linked_words, whole}
 
 -- a word as an int is one of 32 bits

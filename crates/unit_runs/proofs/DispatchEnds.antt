@@ -43,11 +43,11 @@ use Rattle.unit_runs.specs.Held.{HoldsAt, IsHeldFlat, HeldIsFlat}
 use Rattle.unit_runs.specs.Outer.{Outer}
 use Rattle.unit_runs.specs.Placed.{program, CodeStands}
 use Rattle.unit_runs.specs.Host.{CountsCalls}
-use Rattle.unit_runs.proofs.Standing.{seen, behind, IsSeen, stands_of}
+use Rattle.unit_runs.proofs.StandingIsSeen.{seen, behind, IsSeen, stands_of}
 use Rattle.unit_runs.proofs.HowFar.{RunsJoin, Reached, inside_of}
-use Rattle.unit_runs.proofs.Site.{setup}
+use Rattle.unit_runs.proofs.SiteStays.{setup}
 use Rattle.unit_runs.proofs.PrimitivesPass.{Ground, whole}
-use Rattle.unit_runs.proofs.Runs.{RunTo}
+use Rattle.unit_runs.proofs.MeaningOnMachine.{RunTo}
 
 -- the first part of a way
 pub way_upto : (x : Environment) (y : Site) (D : Entry → Type 0) (s : State) (k j : ℕ) → j ≤ k → Way x y D k s → Way x y D j s

@@ -9,7 +9,7 @@ use Rattle.c0_meaning.specs.World.{call_cost}
 use Rattle.cvm_model.specs.KernelMeaning.{Machines, ints_of, call_numbered, primitive_called}
 use Rattle.cvm_model.specs.Primitives.{KernelCall, VmGet, VmSet, VmSize, VmResize, VmWord, VmPut, VmCopy, ConPut, ConGet, ConLeft, no_flat, user_of, pages_of, copy_pieces, is_within, is_address, ranges_overlap, is_good, refused, unchanged, granted, prim}
 use Rattle.cvm_model.specs.Stands.{UserFits}
-use Rattle.unit_runs.proofs.Runs.{MOST_UNITS, FewUnits}
+use Rattle.unit_runs.proofs.MeaningOnMachine.{MOST_UNITS, FewUnits}
 
 -- a user's pages are few, and so are those of no user
 pages_few : (most : ℕ) (users : List Flat) (i : ℕ) → All (UserFits most) users → pages_of (user_of users i) ≤ most

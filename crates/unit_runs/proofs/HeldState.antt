@@ -14,7 +14,7 @@ use Rattle.c0_stmt_code.specs.Standing.{unit_scope}
 use Rattle.layer_map.specs.Map.{Map, globals_at, heap_at}
 use Rattle.cvm_model.specs.Stands.{address_of}
 use Rattle.unit_runs.specs.Held.{AreOnMap, IsHeldFlat, HeldIsFlat}
-use Rattle.unit_runs.proofs.Flat.{within_region, region_words, region_both}
+use Rattle.unit_runs.proofs.HeldStandAsWords.{within_region, region_words, region_both}
 
 words_by_types : (structs : List Shape) (decls : List Typed) → words_of_all structs (types_of decls) ≡ all_words structs decls
 words_by_types structs [] = refl

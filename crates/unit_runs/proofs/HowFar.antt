@@ -15,7 +15,7 @@ use Rattle.layer_contract.specs.Follows.{IsKernelDoor}
 use Rattle.cvm_model.specs.Stands.{Site}
 use Rattle.unit_runs.specs.Placed.{program}
 use Rattle.unit_runs.specs.Host.{world_of, HasCome}
-use Rattle.unit_runs.proofs.Instructions.{code_is, kept_past}
+use Rattle.unit_runs.proofs.CodeOnMachine.{code_is, kept_past}
 
 -- a run of m and then n steps is one of m + n
 abbrev pub RunsJoin : Type 0

@@ -39,12 +39,12 @@ use Rattle.unit_runs.specs.Placed.{program, CodeStands}
 use Rattle.c0_meaning.specs.CallChain.{dispatch_number}
 use Rattle.unit_runs.specs.Host.{MachineFollows}
 use Rattle.unit_runs.specs.Runs.{UnitsRunOverLayers, UnitsCallsFollow}
-use Rattle.unit_runs.proofs.Bounds.{bounds_of}
-use Rattle.unit_runs.proofs.Instructions.{sound}
+use Rattle.unit_runs.proofs.MapPartsStand.{bounds_of}
+use Rattle.unit_runs.proofs.CodeOnMachine.{sound}
 use Rattle.unit_runs.proofs.HowFar.{RunsJoin}
 use Rattle.unit_runs.proofs.PrimitivesPass.{Ground}
-use Rattle.unit_runs.proofs.Runs.{RunTo}
-use Rattle.unit_runs.proofs.Hosted.{runs}
+use Rattle.unit_runs.proofs.MeaningOnMachine.{RunTo}
+use Rattle.unit_runs.proofs.MachineIsHost.{runs}
 use Rattle.unit_runs.proofs.DispatchEnds.{ends}
 use Rattle.unit_runs.proofs.CallsTold.{all_told, no_others}
 use Rattle.unit_runs.proofs.DispatchBegins.{signed_fits, Begun, begun}

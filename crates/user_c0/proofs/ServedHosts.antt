@@ -24,7 +24,7 @@ use Rattle.user_c0.specs.Served.{Served, served}
 use Rattle.c0_unit.specs.Flat.{Outer}
 use Rattle.user_c0.specs.Host.{Here, Told, TRAP_PRICE}
 use Rattle.user_c0.proofs.ServedGoesOn.{goes_on, tells_on}
-use Rattle.user_c0.proofs.Stub.{answers}
+use Rattle.user_c0.proofs.StubTraps.{answers}
 
 -- a word as an int is one of 32 bits
 signed_fits : (n : ℕ) → FitsSigned w32 (signed n)

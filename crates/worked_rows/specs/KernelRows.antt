@@ -12,7 +12,7 @@ use Rattle.c0_meaning.specs.World.{PrimitiveMeaning, Setting, Cost, Configuratio
 use Rattle.c0_meaning.specs.Execution.{Outcome, Done, Failed, NotYet, exec, dispatch}
 use Rattle.worked_rows.specs.Kernels.{z, global, number, block, sums, divisions, by_zero, small_heap, recursion, bounds, null_use, nexts, counting_kernel, scheduler, asm_sum, list, endless, order, parts_kernel, twice, thrice, inverse}
 use Rattle.c0_meaning.specs.PrimitiveCalls.{PrimitiveCall}
-use Rattle.worked_rows.specs.SystemKernels.{returning_kernel, overflow, line_kernel, copies, copies_twice, probes, resizes, divides, console, waiting_kernel}
+use Rattle.worked_rows.specs.SystemKernels.{returning_kernel, overflow, line_kernel, copies, copies_twice, probes, resizes, divides, console_kernel, waiting_kernel}
 use Rattle.c0_meaning.specs.RunLaws.{stands_at}
 use Rattle.c0_meaning.specs.TypedState.{AnswersFit}
 use Rattle.c0_meaning.specs.UserProgram.{prog}
@@ -240,7 +240,7 @@ pub record AreSystemsRight : Type 0 where
   pub grows : comes (resizes 4) 64 256 0 0 0 1000 ≡ shows_calls (answered_int 1) (bool true ∷ []) (primitive_asked 3 (plain 1 ∷ plain 4 ∷ []) ∷ []) 14
   pub divides_at_start : comes divides 64 256 0 0 0 1000 ≡ shows (answered_int 1) (plain 33 ∷ []) 17
   pub divides_at_a_call : comes divides 64 256 6 12 1 1000 ≡ shows (answered_int 0) (plain 11 ∷ []) 14
-  pub reads_and_writes : comes console 64 256 0 0 0 1000 ≡ shows_calls (answered_int 0) (plain 14 ∷ bool true ∷ []) (primitive_asked 8 [] ∷ primitive_asked 8 [] ∷ primitive_asked 7 (plain 14 ∷ []) ∷ primitive_asked 7 (negative_int 1 ∷ []) ∷ []) 20
+  pub reads_and_writes : comes console_kernel 64 256 0 0 0 1000 ≡ shows_calls (answered_int 0) (plain 14 ∷ bool true ∷ []) (primitive_asked 8 [] ∷ primitive_asked 8 [] ∷ primitive_asked 7 (plain 14 ∷ []) ∷ primitive_asked 7 (negative_int 1 ∷ []) ∷ []) 20
   pub leaves_user_3_out : comes waiting_kernel 64 256 1 1 2 1000 ≡ shows (answered_int 1) (plain 0 ∷ these (bool false ∷ bool false ∷ bool false ∷ bool false ∷ []) ∷ []) 97
 
 -- user programs: the answers that are left over aren't asked for, and past the last one a program stands
@@ -279,7 +279,7 @@ pub record AreChecked : Type 0 where
   pub probes : IsChecked probes
   pub resizes : IsChecked (resizes 4)
   pub divides : IsChecked divides
-  pub console : IsChecked console
+  pub console : IsChecked console_kernel
   pub waits : IsChecked waiting_kernel
   pub twice : IsCheckedAs User twice
   pub thrice : IsCheckedAs User thrice

@@ -89,8 +89,8 @@ divides = kernel (decl tree.int (codes "x") Global 0 ∷ []) (next_local ∷ [])
 
 -- int s; bool b; int dispatch(int cause, int data, int user) { int a; int c; a = con_get(); c = con_get(); s = a + c; b = con_put(s); b =
 -- con_put(-1); return 0; }
-abbrev pub console : CUnit
-console = kernel (decl tree.int (codes "s") Global 0 ∷ decl tree.bool (codes "b") Global 1 ∷ []) (decl tree.int (codes "a") Local 3 ∷ decl tree.int (codes "c") Local 4 ∷ [])
+abbrev pub console_kernel : CUnit
+console_kernel = kernel (decl tree.int (codes "s") Global 0 ∷ decl tree.bool (codes "b") Global 1 ∷ []) (decl tree.int (codes "a") Local 3 ∷ decl tree.int (codes "c") Local 4 ∷ [])
     (asking (local (codes "a") 3) (codes "con_get") 8 []
     ∷ asking (local (codes "c") 4) (codes "con_get") 8 []
     ∷ assign z (global (codes "s") 0) (binary z Add (local (codes "a") 3) (local (codes "c") 4))

@@ -4,17 +4,19 @@ use Rattle.c0_tree.specs.declared.tree.UnaryOp.TheVariants.{Negate}
 use Rattle.c0_tree.specs.Tree.{CUnit, unary}
 use Rattle.worked_rows.specs.Kernels.{z, number, divisions, by_zero, small_heap, recursion, bounds, null_use, nexts, scheduler}
 use Rattle.worked_rows.specs.SystemKernels.{returning_kernel, copies, copies_twice, probes, resizes, divides, waiting_kernel}
-use Rattle.worked_rows.specs.SystemKernels.{console as talking}
+use Rattle.worked_rows.specs.SystemKernels.{console_kernel as talking}
 use Rattle.worked_rows.specs.SystemKernels as systems
 use Rattle.c0_meaning.specs.Value.{int, bool}
 use Rattle.mips_table.specs.Flat.{Flat}
+use Rattle.mips_table.specs.Samples.{overflowing}
+use Rattle.layer_map.specs.Samples.{small_params}
 use Rattle.layer_map.specs.Map.{Map, code_at, globals_at, heap_at, stack_at, tables_at, frame_table_at, zero_frame_at, user_frames_at, memory_frames, block_at}
 use Rattle.cvm_model.specs.Kernel.{JournalEntry, Stepped, Trapped, Set, Size, Put}
 use Rattle.cvm_model.specs.Primitives.{KernelCall, VmGet, VmSet, VmSize, VmResize, VmWord, VmPut, VmCopy, ConPut, ConGet, ConLeft, Given, is_good, prim, user_of}
 use Rattle.cvm_model.specs.Cvm.{System, Halted, Cvm, cvm, page_steps, reset_steps, turn_steps}
 use Rattle.cvm_model.specs.Journal.{replay, journal}
 use Rattle.cvm_model.specs.Text.{boot_text, trace_text, user_text, journal_rows, open_journal_rows}
-use Rattle.worked_rows.specs.Systems.{params, a_map, console, a_page, no_page, system_with, system_for, two_frames_with, counting_system, overflowing, storing_user, splitting, paging, three_users_under, sending_user, sending, asking_user, running_past, multiplies}
+use Rattle.worked_rows.specs.Systems.{a_map, console, a_page, no_page, system_with, system_for, two_frames_with, counting_system, storing_user, splitting, paging, three_users_under, sending_user, sending, asking_user, running_past, multiplies}
 
 -- the first address of each part: code, globals, heap, stack, page tables, frame table, zero frame, user frames; and the frames of memory
 abbrev pub firsts : Map → List ℕ
@@ -24,7 +26,7 @@ firsts m =
 
 -- a map of two user frames
 abbrev pub of_two_frames : Map
-of_two_frames = record a_map { params = record params { frames = 2 } }
+of_two_frames = record a_map { params = record small_params { frames = 2 } }
 
 -- where parts and control blocks stand, and the bound's steps of a page, of a turn and of the reset
 pub record AreMapsRight : Type 0 where
@@ -163,11 +165,11 @@ pub record AreKernelsPrinted : Type 0 where
       ≡ Some (codes "turn 0 cause 0 data 00000000 user 0 fault BadUser\n")
   pub below_all_users : comes_to (system_for (returning_kernel (unary z Negate (number 1))) (asking_user ∷ [])) 3
       ≡ Some (codes "turn 0 cause 0 data 00000000 user 0 fault BadUser\n")
-  pub heap_is_full : comes_to (system_with (record params { heap = 3 }) small_heap []) 3
+  pub heap_is_full : comes_to (system_with (record small_params { heap = 3 }) small_heap []) 3
       ≡ Some (codes "turn 0 cause 0 data 00000000 user 0 next 0\nhalted\nglobal p set\nglobal q set\nglobal r null\n")
-  pub stack_is_enough : comes_to (system_with (record params { stack = 66 }) recursion []) 3
+  pub stack_is_enough : comes_to (system_with (record small_params { stack = 66 }) recursion []) 3
       ≡ Some (codes "turn 0 cause 0 data 00000000 user 0 next 0\nhalted\nglobal x 0\n")
-  pub stack_is_out : comes_to (system_with (record params { stack = 65 }) recursion []) 3
+  pub stack_is_out : comes_to (system_with (record small_params { stack = 65 }) recursion []) 3
       ≡ Some (codes "turn 0 cause 0 data 00000000 user 0 fault StackOut\n")
   pub index_is_out : comes_to (kernel_alone bounds) 3 ≡ Some (codes "turn 0 cause 0 data 00000000 user 0 fault Bounds\n")
   pub null_is_used : comes_to (kernel_alone null_use) 3 ≡ Some (codes "turn 0 cause 0 data 00000000 user 0 fault NullUse\n")

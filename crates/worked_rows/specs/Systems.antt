@@ -1,23 +1,18 @@
 -- Small systems and machines whose runs are computed, as checks of the definitions.
 use Rattle.std.specs.Prelude.{ℕ, ◌+◌, ◌-◌, List, [], ◌∷◌, ◌++◌, length, replicate}
 use Rattle.mips_table.specs.Machine.{Console}
-use Rattle.mips_table.specs.declared.inst.Inst.TheVariants.{Addi, Ori, Lui}
-use Rattle.mips_table.specs.Encoding.{encoding}
 use Rattle.mips_table.specs.Flat.{Flat}
 use Rattle.layer_map.specs.declared.params.Params.{Params}
 use Rattle.layer_map.specs.Map.{Map}
+use Rattle.layer_map.specs.Samples.{small_params}
 use Rattle.c0_tree.specs.Tree.{CUnit}
 use Rattle.worked_rows.specs.Kernels.{counting_kernel}
 use Rattle.cvm_model.specs.Cvm.{System, first_flat}
 use Rattle.cvm_model.specs.KernelMeaning.{kernel_meaning}
 
--- pages 4, frames 8, heap 64, stack 256
-abbrev pub params : Params
-params = record { pages = 4; frames = 8; heap = 64; stack = 256 }
-
 -- the map of one user, 100 words of code and two of globals
 abbrev pub a_map : Map
-a_map = record { params = params; users = 1; code_words = 100; global_words = 2 }
+a_map = record { params = small_params; users = 1; code_words = 100; global_words = 2 }
 
 -- the console at the start, with two input words
 abbrev pub console : Console
@@ -36,19 +31,15 @@ abbrev pub system_with : Params → CUnit → List (List ℕ) → System
 system_with p u users = record { boot = record { params = p; meaning = kernel_meaning u p; words = replicate 16384 0; users = users }; input = []; longest = 0 }
 
 abbrev pub system_for : CUnit → List (List ℕ) → System
-system_for u users = system_with params u users
+system_for u users = system_with small_params u users
 
 -- with two frames
 abbrev pub two_frames_with : CUnit → List ℕ → System
-two_frames_with u words = system_with (record params { frames = 2 }) u (words ∷ [])
+two_frames_with u words = system_with (record small_params { frames = 2 }) u (words ∷ [])
 
 -- one user of no words under a kernel that counts its page faults, and halts at the second
 abbrev pub counting_system : System
 counting_system = system_for counting_kernel ([] ∷ [])
-
--- lui r1, 0x7fff; ori r1, r1, 0xffff; addi r2, r1, 1
-abbrev pub overflowing : List ℕ
-overflowing = encoding (Lui 1 0x7fff) ∷ encoding (Ori 1 1 0xffff) ∷ encoding (Addi 2 1 1) ∷ []
 
 -- a user that stores to two pages for ever: sw r1, 4096(r0); sw r2, 8192(r0); j 0
 abbrev pub storing_user : List ℕ

@@ -1,4 +1,4 @@
-use Rattle.alternating.proofs.Boots.{alternating_boots}
+use Rattle.alternating.proofs.AlternatingBoots.{alternating_boots}
 use Rattle.alternating.proofs.alternating_boots.Goals as goal
 
 pub returns : goal.returns

@@ -1,4 +1,4 @@
-use Rattle.alternating.proofs.Texts.{is_text}
+use Rattle.alternating.proofs.TextIsTree.{is_text}
 use Rattle.alternating.proofs.text_is_tree.Goals as goal
 
 pub returns : goal.returns

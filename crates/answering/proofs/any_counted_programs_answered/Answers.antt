@@ -1,4 +1,4 @@
-use Rattle.answering.proofs.Programs.{any_counted_programs_answered}
+use Rattle.answering.proofs.AnyProgramsAnswered.{any_counted_programs_answered}
 use Rattle.answering.proofs.any_counted_programs_answered.Goals as goal
 
 pub returns : goal.returns

@@ -1,4 +1,4 @@
-use Rattle.answering.proofs.Programs.{any_programs_answered}
+use Rattle.answering.proofs.AnyProgramsAnswered.{any_programs_answered}
 use Rattle.answering.proofs.any_programs_answered.Goals as goal
 
 pub returns : goal.returns

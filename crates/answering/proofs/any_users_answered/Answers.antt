@@ -1,4 +1,4 @@
-use Rattle.answering.proofs.Answered.{any_users_answered}
+use Rattle.answering.proofs.AnyUsersAnswered.{any_users_answered}
 use Rattle.answering.proofs.any_users_answered.Goals as goal
 
 pub returns : goal.returns

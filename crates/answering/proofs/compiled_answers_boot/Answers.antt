@@ -1,4 +1,4 @@
-use Rattle.answering.proofs.Compiled.{compiled_answers_boot}
+use Rattle.answering.proofs.CompiledAnswers.{compiled_answers_boot}
 use Rattle.answering.proofs.compiled_answers_boot.Goals as goal
 
 pub returns : goal.returns

@@ -1,4 +1,4 @@
-use Rattle.answering.proofs.Texts.{is_text}
+use Rattle.answering.proofs.TextIsTree.{is_text}
 use Rattle.answering.proofs.text_is_tree.Goals as goal
 
 pub returns : goal.returns

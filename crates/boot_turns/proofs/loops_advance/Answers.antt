@@ -1,7 +1,7 @@
 use Rattle.c0_meaning.specs.TypedState.{IsTypedState}
 use Rattle.mips_machine.specs.Steps.{outside_of}
 use Rattle.boot_turns.specs.Completes.{state_seen}
-use Rattle.boot_turns.proofs.Advancing.{advances}
+use Rattle.boot_turns.proofs.LoopAdvances.{advances}
 use Rattle.boot_turns.proofs.loops_advance.Goals as goal
 
 pub returns : goal.returns

@@ -1,5 +1,5 @@
 -- By the laws that the body calls.
-use Rattle.boot_turns.proofs.Roms.{rom_starts}
+use Rattle.boot_turns.proofs.RomIsStart.{rom_starts}
 use Rattle.boot_turns.proofs.the_rom_starts.Goals as goal
 
 pub returns : goal.returns

@@ -1,4 +1,4 @@
-use Rattle.called_primitives.proofs.Pageless.{pageless_touch_none}
+use Rattle.called_primitives.proofs.PagelessTouchNone.{pageless_touch_none}
 use Rattle.called_primitives.proofs.pageless_touch_none.Goals as goal
 
 pub returns : goal.returns

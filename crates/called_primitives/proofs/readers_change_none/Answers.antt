@@ -1,4 +1,4 @@
-use Rattle.called_primitives.proofs.Readers.{readers_change_none}
+use Rattle.called_primitives.proofs.ReadersChangeNone.{readers_change_none}
 use Rattle.called_primitives.proofs.readers_change_none.Goals as goal
 
 pub returns : goal.returns

@@ -1,5 +1,5 @@
 -- Isolation.
-use Rattle.cvm_model.proofs.Isolation.{isolated}
+use Rattle.cvm_model.proofs.JournalsReplay.{isolated}
 use Rattle.cvm_model.proofs.users_are_isolated.Goals as goal
 
 pub returns : goal.returns

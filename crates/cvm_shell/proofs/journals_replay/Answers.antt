@@ -1,4 +1,4 @@
-use Rattle.cvm_shell.proofs.Isolating.{journals_replayed}
+use Rattle.cvm_shell.proofs.MachinesReplay.{journals_replayed}
 use Rattle.cvm_shell.proofs.journals_replay.Goals as goal
 
 pub returns : goal.returns

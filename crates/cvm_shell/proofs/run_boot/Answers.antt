@@ -8,7 +8,7 @@ use Rattle.cvm_shell.specs.Stages.{FilesPlan, IsBootPlan, ready_for}
 use Rattle.cvm_shell.specs.Views.{boot_view}
 use Rattle.cvm_shell.proofs.CommandPlans.{session_of, viewed_plan}
 use Rattle.cvm_shell.proofs.GotCalls.{beside}
-use Rattle.cvm_shell.proofs.Plans.{if_refused}
+use Rattle.cvm_shell.proofs.FilesComeToPlans.{if_refused}
 use Rattle.cvm_shell.proofs.StageEnds.{found, viewed, run_done, stop_done}
 use Rattle.cvm_shell.proofs.StartAnswers.{told_disk}
 use Rattle.cvm_shell.proofs.run_boot.Goals as goal

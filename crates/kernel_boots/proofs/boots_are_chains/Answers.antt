@@ -1,4 +1,4 @@
-use Rattle.kernel_boots.proofs.Systems.{boots_are_chains}
+use Rattle.kernel_boots.proofs.SystemsBoot.{boots_are_chains}
 use Rattle.kernel_boots.proofs.boots_are_chains.Goals as goal
 
 pub returns : goal.returns

@@ -1,4 +1,4 @@
-use Rattle.kernel_boots.proofs.Boots.{runs_its_source}
+use Rattle.kernel_boots.proofs.StatesShown.{runs_its_source}
 use Rattle.kernel_boots.proofs.boots_run_their_source.Goals as goal
 
 pub returns : goal.returns

@@ -1,4 +1,4 @@
-use Rattle.kernel_boots.proofs.Boots.{boots_stand}
+use Rattle.kernel_boots.proofs.StatesShown.{boots_stand}
 use Rattle.kernel_boots.proofs.boots_show_their_states.Goals as goal
 
 pub returns : goal.returns

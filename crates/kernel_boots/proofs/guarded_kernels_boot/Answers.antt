@@ -1,4 +1,4 @@
-use Rattle.kernel_boots.proofs.Guardeds.{guarded_kernels_boot}
+use Rattle.kernel_boots.proofs.GuardedBoots.{guarded_kernels_boot}
 use Rattle.kernel_boots.proofs.guarded_kernels_boot.Goals as goal
 
 pub returns : goal.returns

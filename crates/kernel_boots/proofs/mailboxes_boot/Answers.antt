@@ -1,4 +1,4 @@
-use Rattle.kernel_boots.proofs.Mailboxes.{mailboxes_boot}
+use Rattle.kernel_boots.proofs.MailboxBoots.{mailboxes_boot}
 use Rattle.kernel_boots.proofs.mailboxes_boot.Goals as goal
 
 pub returns : goal.returns

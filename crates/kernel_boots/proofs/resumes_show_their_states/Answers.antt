@@ -1,4 +1,4 @@
-use Rattle.kernel_boots.proofs.Stands.{resumes_stand}
+use Rattle.kernel_boots.proofs.StatesPrinted.{resumes_stand}
 use Rattle.kernel_boots.proofs.resumes_show_their_states.Goals as goal
 
 pub returns : goal.returns

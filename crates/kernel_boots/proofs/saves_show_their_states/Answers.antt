@@ -1,4 +1,4 @@
-use Rattle.kernel_boots.proofs.Stands.{saves_stand}
+use Rattle.kernel_boots.proofs.StatesPrinted.{saves_stand}
 use Rattle.kernel_boots.proofs.saves_show_their_states.Goals as goal
 
 pub returns : goal.returns

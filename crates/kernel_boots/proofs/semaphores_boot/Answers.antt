@@ -1,4 +1,4 @@
-use Rattle.kernel_boots.proofs.Semaphores.{semaphores_boot}
+use Rattle.kernel_boots.proofs.SemaphoreBoots.{semaphores_boot}
 use Rattle.kernel_boots.proofs.semaphores_boot.Goals as goal
 
 pub returns : goal.returns

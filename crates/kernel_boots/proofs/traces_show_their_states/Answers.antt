@@ -1,4 +1,4 @@
-use Rattle.kernel_boots.proofs.Stands.{traces_stand}
+use Rattle.kernel_boots.proofs.StatesPrinted.{traces_stand}
 use Rattle.kernel_boots.proofs.traces_show_their_states.Goals as goal
 
 pub returns : goal.returns

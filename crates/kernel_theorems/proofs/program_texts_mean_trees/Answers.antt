@@ -1,4 +1,4 @@
-use Rattle.kernel_theorems.proofs.Texts.{program_texts}
+use Rattle.kernel_theorems.proofs.TextsMeanTrees.{program_texts}
 use Rattle.kernel_theorems.proofs.program_texts_mean_trees.Goals as goal
 
 pub returns : goal.returns

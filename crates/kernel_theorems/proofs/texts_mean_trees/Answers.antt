@@ -1,4 +1,4 @@
-use Rattle.kernel_theorems.proofs.Texts.{texts_mean_trees}
+use Rattle.kernel_theorems.proofs.TextsMeanTrees.{texts_mean_trees}
 use Rattle.kernel_theorems.proofs.texts_mean_trees.Goals as goal
 
 pub returns : goal.returns

@@ -1,4 +1,4 @@
-use Rattle.mailing.proofs.Texts.{is_text}
+use Rattle.mailing.proofs.TextIsTree.{is_text}
 use Rattle.mailing.proofs.text_is_tree.Goals as goal
 
 pub returns : goal.returns

@@ -1,4 +1,4 @@
-use Rattle.mailing_boots.proofs.Programs.{any_programs_mail}
+use Rattle.mailing_boots.proofs.AnyProgramsMail.{any_programs_mail}
 use Rattle.mailing_boots.proofs.any_programs_mail.Goals as goal
 
 pub returns : goal.returns

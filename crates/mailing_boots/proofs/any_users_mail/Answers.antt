@@ -1,4 +1,4 @@
-use Rattle.mailing_boots.proofs.Boots.{any_users_mail}
+use Rattle.mailing_boots.proofs.AnyUsersMail.{any_users_mail}
 use Rattle.mailing_boots.proofs.any_users_mail.Goals as goal
 
 pub returns : goal.returns

@@ -1,4 +1,4 @@
-use Rattle.mailing_boots.proofs.Mailers.{mailers_call}
+use Rattle.mailing_boots.proofs.MailersCall.{mailers_call}
 use Rattle.mailing_boots.proofs.mailers_call.Goals as goal
 
 pub returns : goal.returns

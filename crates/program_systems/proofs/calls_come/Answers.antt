@@ -1,4 +1,4 @@
-use Rattle.program_systems.proofs.Coming.{calls_come}
+use Rattle.program_systems.proofs.ProgramsCome.{calls_come}
 use Rattle.program_systems.proofs.calls_come.Goals as goal
 
 pub returns : goal.returns

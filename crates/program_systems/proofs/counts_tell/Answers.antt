@@ -1,4 +1,4 @@
-use Rattle.program_systems.proofs.Counting.{counts_tell}
+use Rattle.program_systems.proofs.CountedComes.{counts_tell}
 use Rattle.program_systems.proofs.counts_tell.Goals as goal
 
 pub returns : goal.returns

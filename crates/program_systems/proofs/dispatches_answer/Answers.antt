@@ -1,4 +1,4 @@
-use Rattle.program_systems.proofs.Dispatches.{dispatches_answer}
+use Rattle.program_systems.proofs.CallerAnswered.{dispatches_answer}
 use Rattle.program_systems.proofs.dispatches_answer.Goals as goal
 
 pub returns : goal.returns

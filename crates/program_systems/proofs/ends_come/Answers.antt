@@ -1,4 +1,4 @@
-use Rattle.program_systems.proofs.Coming.{ends_come}
+use Rattle.program_systems.proofs.ProgramsCome.{ends_come}
 use Rattle.program_systems.proofs.ends_come.Goals as goal
 
 pub returns : goal.returns

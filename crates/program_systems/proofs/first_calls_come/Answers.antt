@@ -1,4 +1,4 @@
-use Rattle.program_systems.proofs.Coming.{first_calls_come}
+use Rattle.program_systems.proofs.ProgramsCome.{first_calls_come}
 use Rattle.program_systems.proofs.first_calls_come.Goals as goal
 
 pub returns : goal.returns

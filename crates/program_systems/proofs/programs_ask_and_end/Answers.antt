@@ -1,4 +1,4 @@
-use Rattle.program_systems.proofs.Asking.{programs_ask_and_end}
+use Rattle.program_systems.proofs.ProgramsAskAndEnd.{programs_ask_and_end}
 use Rattle.program_systems.proofs.programs_ask_and_end.Goals as goal
 
 pub returns : goal.returns

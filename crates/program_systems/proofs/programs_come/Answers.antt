@@ -1,4 +1,4 @@
-use Rattle.program_systems.proofs.Coming.{programs_come}
+use Rattle.program_systems.proofs.ProgramsCome.{programs_come}
 use Rattle.program_systems.proofs.programs_come.Goals as goal
 
 pub returns : goal.returns

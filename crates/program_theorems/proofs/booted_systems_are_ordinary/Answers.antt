@@ -1,5 +1,5 @@
 use Rattle.c0_tree.specs.declared.primitive.Program.TheVariants.{Kernel}
-use Rattle.program_theorems.proofs.Ordinary.{ordinary}
+use Rattle.program_theorems.proofs.RunInRange.{ordinary}
 use Rattle.program_theorems.proofs.booted_systems_are_ordinary.Goals as goal
 
 pub returns : goal.returns

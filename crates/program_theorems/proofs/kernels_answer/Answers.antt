@@ -1,7 +1,7 @@
 use Rattle.std.proofs.Common.{◌∙◌}
 use Rattle.run_scripts.specs.Boot.{booted}
 use Rattle.run_scripts.specs.Isolation.{session_lines}
-use Rattle.program_theorems.proofs.Answering.{are_events}
+use Rattle.program_theorems.proofs.EventsAnswered.{are_events}
 use Rattle.program_theorems.proofs.kernels_answer.Goals as goal
 
 pub returns : goal.returns

@@ -1,4 +1,4 @@
-use Rattle.program_theorems.proofs.Summings.{traced}
+use Rattle.program_theorems.proofs.SumsTraced.{traced}
 use Rattle.program_theorems.proofs.sums_are_traced.Goals as goal
 
 pub returns : goal.returns

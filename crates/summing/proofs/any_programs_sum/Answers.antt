@@ -1,4 +1,4 @@
-use Rattle.summing.proofs.Programs.{any_programs_sum}
+use Rattle.summing.proofs.AnyProgramsSum.{any_programs_sum}
 use Rattle.summing.proofs.any_programs_sum.Goals as goal
 
 pub returns : goal.returns

@@ -1,4 +1,4 @@
-use Rattle.summing.proofs.Compiled.{compiled_sums_boot}
+use Rattle.summing.proofs.CompiledSumsBoot.{compiled_sums_boot}
 use Rattle.summing.proofs.compiled_sums_boot.Goals as goal
 
 pub returns : goal.returns

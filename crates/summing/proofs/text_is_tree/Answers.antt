@@ -1,4 +1,4 @@
-use Rattle.summing.proofs.Texts.{is_text}
+use Rattle.summing.proofs.TextIsTree.{is_text}
 use Rattle.summing.proofs.text_is_tree.Goals as goal
 
 pub returns : goal.returns

@@ -1,4 +1,4 @@
-use Rattle.summing.proofs.Users.{users_call}
+use Rattle.summing.proofs.UsersCall.{users_call}
 use Rattle.summing.proofs.users_call.Goals as goal
 
 pub returns : goal.returns

@@ -1,7 +1,7 @@
 use Rattle.std.proofs.Common.{refl}
 use Rattle.std.specs.Int.{int_wrap}
 use Rattle.c0_meaning.specs.Words.{holds, struct_words}
-use Rattle.worked_rows.proofs.Sevens.{sevens_fit}
+use Rattle.worked_rows.proofs.TablesAnswer.{sevens_fit}
 use Rattle.c0_tree.specs.declared.tree.UnaryOp.TheVariants.{Negate}
 use Rattle.c0_tree.specs.Tree.{unary}
 use Rattle.worked_rows.specs.Kernels as kernels
@@ -122,7 +122,7 @@ returns-clause-checked c = let all_allowed = c.words_are_allowed_as_tested.ensur
   probes = record { well_formed = record { plain = refl; typed = refl; resolved = refl; allowed = all_allowed systems.probes.functions refl }; first = refl };
   resizes = record { well_formed = record { plain = refl; typed = refl; resolved = refl; allowed = all_allowed (systems.resizes 4).functions refl }; first = refl };
   divides = record { well_formed = record { plain = refl; typed = refl; resolved = refl; allowed = all_allowed systems.divides.functions refl }; first = refl };
-  console = record { well_formed = record { plain = refl; typed = refl; resolved = refl; allowed = all_allowed systems.console.functions refl }; first = refl };
+  console = record { well_formed = record { plain = refl; typed = refl; resolved = refl; allowed = all_allowed systems.console_kernel.functions refl }; first = refl };
   waits = record { well_formed = record { plain = refl; typed = refl; resolved = refl; allowed = all_allowed systems.waiting_kernel.functions refl }; first = refl };
   twice = record { well_formed = record { plain = refl; typed = refl; resolved = refl; allowed = all_allowed kernels.twice.functions refl }; first = refl };
   thrice = record { well_formed = record { plain = refl; typed = refl; resolved = refl; allowed = all_allowed kernels.thrice.functions refl }; first = refl };

@@ -1,5 +1,5 @@
-use Rattle.boot_image.proofs.Pieces.{pieces_spell}
-use Rattle.boot_image.proofs.Readings.{answer_only}
+use Rattle.boot_image.proofs.PiecesSpellImages.{pieces_spell}
+use Rattle.boot_image.proofs.TwoReadings.{answer_only}
 use Rattle.boot_image.proofs.AnswersAreSo.{answer_so}
 use Rattle.boot_image.proofs.reading.bytes_have_one_answer.Goals as goal
 

@@ -1,7 +1,7 @@
 use Rattle.std.proofs.Common.{◌+◌, ◌-◌, ◌∙◌, List, ℕ, Ok, Err, sym, ap, arith}
 use Rattle.std.proofs.lemmas.Result.{err_from_is_err_and}
 use Rattle.boot_image.specs.Reading.{counts_at}
-use Rattle.boot_image.proofs.Loops.{counts_more, counts_end}
+use Rattle.boot_image.proofs.OneUserMore.{counts_more, counts_end}
 use Rattle.boot_image.proofs.reading.counts.Goals as goal
 
 pub returns-in_err-count : goal.returns-in_err-count

@@ -1,7 +1,7 @@
 -- The parts were found, or the first fault; and that is the answer.
 use Rattle.std.proofs.lemmas.Result.{err_from_is_err_and}
 use Rattle.std.proofs.Common.{Err}
-use Rattle.boot_image.proofs.Answers.{answered_parts, gives_fault, gives_memory, gives_image}
+use Rattle.boot_image.proofs.AnswersByFound.{answered_parts, gives_fault, gives_memory, gives_image}
 use Rattle.boot_image.proofs.reading.image_in.Goals as goal
 
 pub returns-in_err-source : goal.returns-in_err-source

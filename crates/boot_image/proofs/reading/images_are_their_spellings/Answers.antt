@@ -1,5 +1,5 @@
-use Rattle.boot_image.proofs.Steps.{read_back}
-use Rattle.boot_image.proofs.Spelled.{answer_spelled}
+use Rattle.boot_image.proofs.SpellingIsAnswered.{read_back}
+use Rattle.boot_image.proofs.AnsweredIsSpelling.{answer_spelled}
 use Rattle.boot_image.proofs.reading.images_are_their_spellings.Goals as goal
 
 pub returns-clause-spelled : goal.returns-clause-spelled

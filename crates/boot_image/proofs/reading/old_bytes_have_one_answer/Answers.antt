@@ -1,4 +1,4 @@
-use Rattle.boot_image.proofs.Readings.{old_answer_only}
+use Rattle.boot_image.proofs.TwoReadings.{old_answer_only}
 use Rattle.boot_image.proofs.AnswersAreSo.{old_answer_so}
 use Rattle.boot_image.proofs.reading.old_bytes_have_one_answer.Goals as goal
 

@@ -1,5 +1,5 @@
-use Rattle.boot_image.proofs.Steps.{old_read_back}
-use Rattle.boot_image.proofs.Spelled.{old_answer_spelled}
+use Rattle.boot_image.proofs.SpellingIsAnswered.{old_read_back}
+use Rattle.boot_image.proofs.AnsweredIsSpelling.{old_answer_spelled}
 use Rattle.boot_image.proofs.reading.old_images_are_their_spellings.Goals as goal
 
 pub returns-clause-spelled : goal.returns-clause-spelled

@@ -2,7 +2,7 @@
 use Rattle.std.proofs.Common.{List, ℕ, Ok, Err, sym, ap, ◌∙◌, arith}
 use Rattle.std.proofs.lemmas.Result.{err_from_is_err_and}
 use Rattle.boot_image.specs.Reading.{image_at}
-use Rattle.boot_image.proofs.Answers.{answer_by, gives_fault, gives_behind}
+use Rattle.boot_image.proofs.AnswersByFound.{answer_by, gives_fault, gives_behind}
 use Rattle.boot_image.proofs.FormatWords.{gives_only, gives_spelled}
 use Rattle.boot_image.proofs.reading.read.Goals as goal
 

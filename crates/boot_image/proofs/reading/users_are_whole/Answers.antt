@@ -1,7 +1,7 @@
 use Rattle.std.proofs.Common.{◌∙◌, Err, arith}
 use Rattle.std.proofs.lemmas.Bool.Decides.{nat_tests}
 use Rattle.std.proofs.lemmas.Result.{err_from_is_err_and}
-use Rattle.boot_image.proofs.Loops.{users_more, users_end, users_go_on}
+use Rattle.boot_image.proofs.OneUserMore.{users_more, users_end, users_go_on}
 use Rattle.boot_image.proofs.reading.users_are_whole.Goals as goal
 
 pub returns-in_err-others : goal.returns-in_err-others

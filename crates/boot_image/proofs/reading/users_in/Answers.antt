@@ -1,7 +1,7 @@
 use Rattle.std.proofs.Common.{◌+◌, ◌*◌, ◌∙◌, ◌++◌, ◌∷◌, List, ℕ, map, drop, get_or, sym, ap, arith, append-nil}
 use Rattle.cvm_words.specs.Bytes.{words_of_bytes}
 use Rattle.boot_image.specs.Reading.{users_of}
-use Rattle.boot_image.proofs.Loops.{next_whole, users_of_more, users_of_end, push_map}
+use Rattle.boot_image.proofs.OneUserMore.{next_whole, users_of_more, users_of_end, push_map}
 use Rattle.boot_image.proofs.reading.users_in.Goals as goal
 
 pub split_at-requires : goal.split_at-requires

@@ -1,5 +1,5 @@
 use Rattle.std.proofs.Common.{◌≤◌, List, ℕ, length, ap, arith}
-use Rattle.boot_image.proofs.Loops.{all_at}
+use Rattle.boot_image.proofs.OneUserMore.{all_at}
 use Rattle.boot_image.proofs.writing.push_counts.Goals as goal
 
 pub overflow_cast-len : goal.overflow_cast-len

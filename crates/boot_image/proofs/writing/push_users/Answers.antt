@@ -3,7 +3,7 @@ use Rattle.std.specs.List.{flat_map}
 use Rattle.std.proofs.lemmas.List.Elements.{All-append, All-from_recursion}
 use Rattle.cvm_words.specs.Bytes.{word}
 use Rattle.boot_image.specs.Format.{AreWords}
-use Rattle.boot_image.proofs.Loops.{take_map, push_flat}
+use Rattle.boot_image.proofs.OneUserMore.{take_map, push_flat}
 use Rattle.boot_image.proofs.writing.push_users.Goals as goal
 
 pub loop-user-preserved : goal.loop-user-preserved

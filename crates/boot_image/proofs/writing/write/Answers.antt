@@ -2,7 +2,7 @@
 use Rattle.std.proofs.Common.{rules, ap, ◌∙◌, arith}
 use Rattle.std.proofs.lemmas.Grind.{common_steps}
 use Rattle.boot_image.specs.Reading.{answer, old_answer}
-use Rattle.boot_image.proofs.Steps.{read_back, old_read_back, old_refused}
+use Rattle.boot_image.proofs.SpellingIsAnswered.{read_back, old_read_back, old_refused}
 use Rattle.boot_image.proofs.writing.write.Goals as goal
 
 pub returns-clause-spelled : goal.returns-clause-spelled

@@ -2,7 +2,7 @@ use Rattle.std.proofs.Common.{◌≡◌, ◌+◌, ◌<◌, length, refl, sym, ap
 use Rattle.std.proofs.lemmas.Result.{err_from_is_err_and}
 use Rattle.cvm_outside.proofs.RowsPut.{puts_none, puts_same}
 use Rattle.boot_report.specs.Texts.{memory_row}
-use Rattle.boot_report.proofs.Texts.{rows_none, rows_more, rows_stop, texts-empty}
+use Rattle.boot_report.proofs.TextsInTurn.{rows_none, rows_more, rows_stop, texts-empty}
 use Rattle.boot_report.proofs.memory.put_line.Goals as goal
 
 pub returns-then-are_zero : goal.returns-then-are_zero

@@ -1,6 +1,6 @@
 use Rattle.std.proofs.Common.{◌≡◌, refl, arith}
 use Rattle.std.proofs.lemmas.Result.{err_from_is_err_and}
-use Rattle.boot_report.proofs.Texts.{rows_none, rows_more, rows_stop}
+use Rattle.boot_report.proofs.TextsInTurn.{rows_none, rows_more, rows_stop}
 use Rattle.boot_report.proofs.users.put_registers.Goals as goal
 
 pub loop-i-init : goal.loop-i-init

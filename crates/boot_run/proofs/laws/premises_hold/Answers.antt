@@ -1,4 +1,4 @@
-use Rattle.boot_run.proofs.Premises.{are_disk}
+use Rattle.boot_run.proofs.PremisesOfBoots.{are_disk}
 use Rattle.boot_run.proofs.laws.premises_hold.Goals as goal
 
 pub returns-clause-loaded : goal.returns-clause-loaded

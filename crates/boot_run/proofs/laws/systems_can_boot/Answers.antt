@@ -1,7 +1,7 @@
 use Rattle.std.proofs.Common.{◌<◌, ◌≤◌, ◌^◌, subst, arith}
 use Rattle.std.specs.Prelude.{All}
 use Rattle.boot_run.specs.LoadEnds.{pages_needed}
-use Rattle.boot_run.proofs.Premises.{bootable, rom_bootable}
+use Rattle.boot_run.proofs.PremisesOfBoots.{bootable, rom_bootable}
 use Rattle.boot_run.proofs.laws.systems_can_boot.Goals as goal
 
 pub returns-clause-loaded : goal.returns-clause-loaded

@@ -1,5 +1,5 @@
 -- By the law that the body calls.
-use Rattle.c0_asm_body.proofs.Words.{are_encoded}
+use Rattle.c0_asm_body.proofs.WordsSetRegisters.{are_encoded}
 use Rattle.c0_asm_body.proofs.laws.bodies_are_encoded.Goals as goal
 
 pub returns : goal.returns

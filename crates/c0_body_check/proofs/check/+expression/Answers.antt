@@ -5,7 +5,7 @@ use Rattle.c0_tree.specs.declared.tree.Expr as rust
 use Rattle.c0_tree.specs.declared.tree.Expr.TheFolds as folds
 use Rattle.c0_tree.specs.Tree.{field, arrow, index, deref, address, unary, binary}
 use Rattle.c0_tree.specs.View.{expr_view, name_view}
-use Rattle.c0_meaning.specs.Expression.{one, is_lvalue, is_local, span_of, is_null, member, deref_rule, unary_rule}
+use Rattle.c0_meaning.specs.Expression.{rule_on_one, is_lvalue, is_local, span_of, is_null, member, deref_rule, unary_rule}
 use Rattle.c0_body_check.specs.Scope.{env_view}
 use Rattle.c0_body_check.proofs.NodeChecks.{seen, part, part_asked, tested, one_part, field_node, arrow_node, index_node, address_node, null_left_node, no_null_left_node}
 use Rattle.c0_body_check.proofs.check.+expression.Goals as goal
@@ -35,14 +35,14 @@ pub check-returns-in-Deref-clause-checks : goal.check-returns-in-Deref-clause-ch
 check-returns-in-Deref-clause-checks t c =
     let env = env_view c.args.scope.now in
     let w = part env _ _ _ _ _ _ c.deref_mut-in-Deref.ensures.value c.check-in-Deref.ensures.checks in
-    let d = one_part env _ (λ x. one x (deref_rule c.in-Deref.span)) _ _ _ _ _ _ _ w (ap (λ x. one x (deref_rule c.in-Deref.span)) c.form-form-in-Deref.ensures) c.deref-in-Deref.ensures.settles in
+    let d = one_part env _ (λ x. rule_on_one x (deref_rule c.in-Deref.span)) _ _ _ _ _ _ _ w (ap (λ x. rule_on_one x (deref_rule c.in-Deref.span)) c.form-form-in-Deref.ensures) c.deref-in-Deref.ensures.settles in
     seen env _ _ _ _ _ _ _ (ap expr_view c.in-Deref.is ∙ view_deref _ _) (view_deref _ _) (d.0, d.1, ap (deref c.in-Deref.span) w.2)
 
 pub check-returns-in-Unary-clause-checks : goal.check-returns-in-Unary-clause-checks
 check-returns-in-Unary-clause-checks t c =
     let env = env_view c.args.scope.now in
     let w = part env _ _ _ _ _ _ c.deref_mut-in-Unary.ensures.value c.check-in-Unary.ensures.checks in
-    let d = one_part env _ (λ x. one x (unary_rule c.in-Unary.span c.in-Unary.op)) _ _ _ _ _ _ _ w (ap (λ x. one x (unary_rule c.in-Unary.span c.in-Unary.op)) c.form-form-in-Unary.ensures) c.unary.ensures in
+    let d = one_part env _ (λ x. rule_on_one x (unary_rule c.in-Unary.span c.in-Unary.op)) _ _ _ _ _ _ _ w (ap (λ x. rule_on_one x (unary_rule c.in-Unary.span c.in-Unary.op)) c.form-form-in-Unary.ensures) c.unary.ensures in
     seen env _ _ _ _ _ _ _ (ap expr_view c.in-Unary.is ∙ view_unary _ _ _) (view_unary _ _ _) (d.0, d.1, ap (unary c.in-Unary.span c.in-Unary.op) w.2)
 
 pub check-returns-in-Field-clause-checks : goal.check-returns-in-Field-clause-checks

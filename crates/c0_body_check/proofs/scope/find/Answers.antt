@@ -1,6 +1,6 @@
 -- The number that the map tells is that of the first element of the name.
 use Rattle.std.proofs.Common.{sym, ◌∙◌, arith}
-use Rattle.c0_body_check.proofs.Numbered.{number_within, first_numbered}
+use Rattle.c0_body_check.proofs.NumbersFindNames.{number_within, first_numbered}
 use Rattle.c0_body_check.proofs.scope.find.Goals as goal
 
 pub bounds-list-number : goal.bounds-list-number

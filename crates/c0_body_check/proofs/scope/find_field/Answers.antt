@@ -5,7 +5,7 @@ use Rattle.c0_tree.specs.View.{decl_view}
 use Rattle.c0_meaning.specs.Env.{typed_of, first_named, fields_of}
 use Rattle.c0_name_check.specs.Names.{number_named}
 use Rattle.c0_body_check.specs.Scope.{shape_view, typed_view}
-use Rattle.c0_body_check.proofs.Numbered.{number_within, first_numbered}
+use Rattle.c0_body_check.proofs.NumbersFindNames.{number_within, first_numbered}
 use Rattle.c0_body_check.proofs.scope.find_field.Goals as goal
 
 pub bounds-scope-place-in-Some : goal.bounds-scope-place-in-Some

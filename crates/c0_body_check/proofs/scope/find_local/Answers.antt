@@ -1,7 +1,7 @@
 -- The number that the map tells is that of the first parameter or local of the name.
 use Rattle.std.proofs.Common.{sym, ◌∙◌}
 use Rattle.c0_body_check.specs.Scope.{typed_view}
-use Rattle.c0_body_check.proofs.Numbered.{second_within, first_of_two, second_of_two}
+use Rattle.c0_body_check.proofs.NumbersFindNames.{second_within, first_of_two, second_of_two}
 use Rattle.c0_body_check.proofs.scope.find_local.Goals as goal
 
 pub bounds-scope-place-else-place-count : goal.bounds-scope-place-else-place-count

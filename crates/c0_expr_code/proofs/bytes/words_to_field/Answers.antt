@@ -4,7 +4,7 @@ use Rattle.std.proofs.lemmas.List.{get_or-map, length-map}
 use Rattle.c0_tree.specs.View.{name_view, unit_view, struct_view}
 use Rattle.c0_meaning.specs.Offsets.{struct_offsets}
 use Rattle.c0_meaning.specs.Sound.{shapes}
-use Rattle.c0_expr_code.proofs.Structs.{struct_count, fields_begin}
+use Rattle.c0_expr_code.proofs.StructsFound.{struct_count, fields_begin}
 use Rattle.c0_expr_code.proofs.bytes.words_to_field.Goals as goal
 
 pub index-requires : goal.index-requires

@@ -1,5 +1,5 @@
 use Rattle.std.proofs.Common.{◌∙◌}
-use Rattle.c0_expr_code.proofs.Emitted.{literal_is}
+use Rattle.c0_expr_code.proofs.OutermostPart.{literal_is}
 use Rattle.c0_expr_code.proofs.known.literal_of.Goals as goal
 
 pub returns : goal.returns

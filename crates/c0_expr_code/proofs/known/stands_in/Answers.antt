@@ -1,6 +1,6 @@
 use Rattle.std.proofs.Common.{◌∙◌}
 use Rattle.c0_tree.specs.View.{expr_view}
-use Rattle.c0_expr_code.proofs.Emitted.{stands_is}
+use Rattle.c0_expr_code.proofs.OutermostPart.{stands_is}
 use Rattle.c0_expr_code.specs.Scene.{scope_in}
 use Rattle.c0_expr_code.proofs.known.stands_in.Goals as goal
 

@@ -1,4 +1,4 @@
-use Rattle.c0_expr_code.proofs.Areas.{area}
+use Rattle.c0_expr_code.proofs.AreasHold.{area}
 use Rattle.c0_expr_code.proofs.laws.areas_hold.Goals as goal
 
 pub returns : goal.returns

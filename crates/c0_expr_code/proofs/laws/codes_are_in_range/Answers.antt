@@ -1,5 +1,5 @@
 use Rattle.c0_expr_code.proofs.InRange.{value_in_range, operand_in_range, register_in_range, place_in_range, store_in_range, test_in_range}
-use Rattle.c0_expr_code.proofs.Exits.{exits_near}
+use Rattle.c0_expr_code.proofs.ExitsAreNear.{exits_near}
 use Rattle.c0_expr_code.proofs.laws.codes_are_in_range.Goals as goal
 
 pub returns-clause-codes : goal.returns-clause-codes

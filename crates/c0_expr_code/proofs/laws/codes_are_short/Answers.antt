@@ -1,6 +1,6 @@
 use Rattle.c0_expr_code.specs.Code.{made}
 use Rattle.c0_tree.specs.Size.{nodes}
-use Rattle.c0_expr_code.proofs.Lengths.{short, operand_length}
+use Rattle.c0_expr_code.proofs.ShortExpressions.{short, operand_length}
 use Rattle.c0_expr_code.proofs.TestLengths.{test_length}
 use Rattle.c0_expr_code.proofs.CodeNeverEmpty.{value_some, test_some, test_same}
 use Rattle.c0_expr_code.proofs.laws.codes_are_short.Goals as goal

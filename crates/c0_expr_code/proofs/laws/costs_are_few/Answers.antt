@@ -1,4 +1,4 @@
-use Rattle.c0_expr_code.proofs.Costs.{value_costs, place_costs}
+use Rattle.c0_expr_code.proofs.CostsWithinNodes.{value_costs, place_costs}
 use Rattle.c0_expr_code.proofs.laws.costs_are_few.Goals as goal
 
 pub returns : goal.returns

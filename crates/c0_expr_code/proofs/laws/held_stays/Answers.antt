@@ -1,5 +1,5 @@
 use Rattle.c0_expr_code.proofs.SideBySide.{ready_on}
-use Rattle.c0_expr_code.proofs.Stores.{region_same, put_word}
+use Rattle.c0_expr_code.proofs.StoredAtPath.{region_same, put_word}
 use Rattle.c0_expr_code.proofs.LiveLocals.{locals_same, locals_put}
 use Rattle.c0_expr_code.proofs.laws.held_stays.Goals as goal
 

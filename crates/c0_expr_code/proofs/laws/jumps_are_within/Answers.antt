@@ -1,4 +1,4 @@
-use Rattle.c0_expr_code.proofs.Patches.{within}
+use Rattle.c0_expr_code.proofs.PatchedIsTestCode.{within}
 use Rattle.c0_expr_code.proofs.laws.jumps_are_within.Goals as goal
 
 pub returns : goal.returns

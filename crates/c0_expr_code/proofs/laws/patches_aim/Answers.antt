@@ -1,4 +1,4 @@
-use Rattle.c0_expr_code.proofs.Patches.{patches}
+use Rattle.c0_expr_code.proofs.PatchedIsTestCode.{patches}
 use Rattle.c0_expr_code.proofs.laws.patches_aim.Goals as goal
 
 pub returns : goal.returns

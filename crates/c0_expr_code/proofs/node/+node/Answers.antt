@@ -5,8 +5,8 @@ use Rattle.mips_table.specs.Encoding.{encoding}
 use Rattle.c0_tree.specs.View.{expr_view}
 use Rattle.c0_expr_code.specs.Code.{AddressingMode, value_code}
 use Rattle.c0_expr_code.specs.Scene.{scope_in}
-use Rattle.c0_expr_code.proofs.Emitted.{binary_address, view_binary, near_place, far_code}
-use Rattle.c0_expr_code.proofs.Patched.{patched}
+use Rattle.c0_expr_code.proofs.OutermostPart.{binary_address, view_binary, near_place, far_code}
+use Rattle.c0_expr_code.proofs.BranchPatched.{patched}
 use Rattle.c0_expr_code.proofs.node.+node.Goals as goal
 
 pub emit_place-field_bytes-requires-in-Arrow-clause-resolved : goal.emit_place-field_bytes-requires-in-Arrow-clause-resolved

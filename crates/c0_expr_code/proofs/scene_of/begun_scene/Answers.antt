@@ -1,4 +1,4 @@
-use Rattle.c0_expr_code.proofs.Scopes.{scope_is}
+use Rattle.c0_expr_code.proofs.ScopeOfScene.{scope_is}
 use Rattle.c0_expr_code.proofs.scene_of.begun_scene.Goals as goal
 
 pub returns : goal.returns

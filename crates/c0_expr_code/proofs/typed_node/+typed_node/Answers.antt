@@ -4,7 +4,7 @@ use Rattle.std.proofs.lemmas.List.{append-nil, length-map}
 use Rattle.mips_table.specs.Encoding.{encoding}
 use Rattle.c0_expr_code.specs.Code.{AddressingMode}
 use Rattle.c0_expr_code.specs.SettingIn.{node_in, setting_in}
-use Rattle.c0_expr_code.proofs.Patched.{patched}
+use Rattle.c0_expr_code.proofs.BranchPatched.{patched}
 use Rattle.c0_expr_code.proofs.TypedKnown.{plain_address}
 use Rattle.c0_expr_code.proofs.typed_node.+typed_node.Goals as goal
 

@@ -11,8 +11,8 @@ use Rattle.c0_meaning.specs.Sound.{shapes}
 use Rattle.c0_meaning.specs.Words.{words}
 use Rattle.c0_expr_code.specs.Code.{shift_within, POWERS, element_words}
 use Rattle.c0_expr_code.specs.Scene.{scope_in, unit_in}
-use Rattle.c0_expr_code.proofs.Structs.{view_array, env_structs}
-use Rattle.c0_expr_code.proofs.Shifts.{capped_shift}
+use Rattle.c0_expr_code.proofs.StructsFound.{view_array, env_structs}
+use Rattle.c0_expr_code.proofs.PowersOfTwo.{capped_shift}
 use Rattle.c0_expr_code.proofs.variable.elements_of.Goals as goal
 
 pub returns-in-Array-clause-words : goal.returns-in-Array-clause-words

@@ -2,7 +2,7 @@
 use Rattle.std.proofs.Common.{sym, ◌∙◌}
 use Rattle.c0_tree.specs.View.{function_view}
 use Rattle.c0_meaning.specs.Limits.{is_first}
-use Rattle.c0_meaning.proofs.Positions.{position-map}
+use Rattle.c0_meaning.proofs.FirstPositions.{position-map}
 use Rattle.c0_meaning.proofs.first.find_first.Goals as goal
 
 pub returns : goal.returns

@@ -1,5 +1,5 @@
 use Rattle.c0_meaning.proofs.TypedIsFaultless.{typed_is_faultless, has_one_type}
-use Rattle.c0_meaning.proofs.Faultless.{faultless_is_typed}
+use Rattle.c0_meaning.proofs.FaultlessIsTyped.{faultless_is_typed}
 use Rattle.c0_meaning.proofs.laws.expressions_are_typed_or_faulty.Goals as goal
 
 pub returns-clause-typed : goal.returns-clause-typed

@@ -1,4 +1,4 @@
-use Rattle.c0_meaning.proofs.Numbered.{numbers_tell}
+use Rattle.c0_meaning.proofs.NumbersTellTypes.{numbers_tell}
 use Rattle.c0_meaning.proofs.laws.numbers_tell.Goals as goal
 
 pub returns : goal.returns

@@ -1,5 +1,5 @@
 use Rattle.c0_meaning.proofs.AskedTypes.{tested_is_faultless}
-use Rattle.c0_meaning.proofs.Statements.{statements_are_faultless}
+use Rattle.c0_meaning.proofs.TypedStatements.{statements_are_faultless}
 use Rattle.c0_meaning.proofs.laws.statements_are_typed_or_faulty.Goals as goal
 
 pub returns-clause-statements : goal.returns-clause-statements

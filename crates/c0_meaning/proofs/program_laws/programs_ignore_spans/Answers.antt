@@ -1,4 +1,4 @@
-use Rattle.c0_meaning.proofs.Bares.{programs_ignore_spans}
+use Rattle.c0_meaning.proofs.SpansDontMatter.{programs_ignore_spans}
 use Rattle.c0_meaning.proofs.program_laws.programs_ignore_spans.Goals as goal
 
 pub returns : goal.returns

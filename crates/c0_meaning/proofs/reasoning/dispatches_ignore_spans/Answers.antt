@@ -1,4 +1,4 @@
-use Rattle.c0_meaning.proofs.Bares.{dispatches_ignore_spans}
+use Rattle.c0_meaning.proofs.SpansDontMatter.{dispatches_ignore_spans}
 use Rattle.c0_meaning.proofs.reasoning.dispatches_ignore_spans.Goals as goal
 
 pub returns : goal.returns

@@ -1,4 +1,4 @@
-use Rattle.c0_meaning.proofs.Bares.{units_ignore_spans}
+use Rattle.c0_meaning.proofs.SpansDontMatter.{units_ignore_spans}
 use Rattle.c0_meaning.proofs.reasoning.units_ignore_spans.Goals as goal
 
 pub returns : goal.returns

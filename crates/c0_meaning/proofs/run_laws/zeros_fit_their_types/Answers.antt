@@ -1,4 +1,4 @@
-use Rattle.c0_meaning.proofs.Fields.{zeros_fit_types}
+use Rattle.c0_meaning.proofs.TypesHaveWords.{zeros_fit_types}
 use Rattle.c0_meaning.proofs.run_laws.zeros_fit_their_types.Goals as goal
 
 pub returns : goal.returns

@@ -8,7 +8,7 @@ use Rattle.c0_parser.specs.Contract.{as_seen}
 use Rattle.c0_parser.specs.Views.{AreArgs}
 use Rattle.c0_parser.specs.Stmts.{AreMoreArgs}
 use Rattle.c0_parser.proofs.PieceSteps.{goes_both, goes_with_at, goes_without, heads_then, heads_not, fails_left, fails_right, fails_with_at, exits_any, tails_any}
-use Rattle.c0_parser.proofs.Stmts.{one_arg}
+use Rattle.c0_parser.proofs.PartsOfStatements.{one_arg}
 use Rattle.c0_parser.proofs.arguments.arguments.Goals as goal
 
 pub returns-in_err-first-in-Some : goal.returns-in_err-first-in-Some

@@ -8,7 +8,7 @@ use Rattle.c0_parser.specs.Grammar.{many, sign, ◌▸◌, EXPR}
 use Rattle.c0_parser.specs.Contract.{as_seen}
 use Rattle.c0_parser.specs.Stmts.{AreMoreArgs}
 use Rattle.c0_parser.proofs.PieceSteps.{list_begins, list_item, goes_many, goes_both, goes_sign, heads_not, heads_is, mark_kind, fails_many, fails_right, exits_any}
-use Rattle.c0_parser.proofs.Stmts.{no_args, more_args}
+use Rattle.c0_parser.proofs.PartsOfStatements.{no_args, more_args}
 use Rattle.c0_parser.proofs.arguments.more_arguments.Goals as goal
 
 pub loop-after_comma-init : goal.loop-after_comma-init

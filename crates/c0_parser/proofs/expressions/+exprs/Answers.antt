@@ -9,9 +9,9 @@ use Rattle.c0_parser.specs.Machine.{kind}
 use Rattle.c0_parser.specs.Contract.{as_seen}
 use Rattle.c0_parser.specs.Views.{IsPart}
 use Rattle.c0_parser.specs.Levels.{rule_of, operation, heads_any}
-use Rattle.c0_parser.specs.Tails.{part_value, LITERAL, FIELD, SUFFIX}
+use Rattle.c0_parser.specs.Tails.{part_value, LITERAL, FIELD, PRIMARY_SUFFIX}
 use Rattle.c0_parser.proofs.PieceSteps.{goes_sign, goes_both, goes_first, goes_second, goes_the, goes_with, goes_without, list_starts, fails_left, fails_right, fails_first, fails_second, fails_the, fails_with, exits, exits_any, shorter}
-use Rattle.c0_parser.proofs.Exprs.{chain_more, chain_ends, chain_fails, first_fails, pair_gives, operation_heads, operation_here, goes_operation, fails_operation, suffixes_more, suffixes_end, suffixes_fail, picks_element, picks_prefixed, picks_parens, goes_prefix, literal_gives, postfix_gives, field_gives}
+use Rattle.c0_parser.proofs.PartsOfExpressions.{chain_more, chain_ends, chain_fails, first_fails, pair_gives, operation_heads, operation_here, goes_operation, fails_operation, suffixes_more, suffixes_end, suffixes_fail, picks_element, picks_prefixed, picks_parens, goes_prefix, literal_gives, postfix_gives, field_gives}
 use Rattle.c0_parser.proofs.expressions.+exprs.Goals as goal
 
 pub binary-returns-in_err-left : goal.binary-returns-in_err-left
@@ -76,12 +76,12 @@ comparison-returns t c =
     )
 
 pub postfix-returns-in_err-left : goal.postfix-returns-in_err-left
-postfix-returns-in_err-left t c = exits (the postfix) IsPart _ _ _ c.from_residual.ensures.1 (fails_the postfix (fails_left (many SUFFIX) c.in_err-left.ensures))
+postfix-returns-in_err-left t c = exits (the postfix) IsPart _ _ _ c.from_residual.ensures.1 (fails_the postfix (fails_left (many PRIMARY_SUFFIX) c.in_err-left.ensures))
 
 pub postfix-loop-alloc-init : goal.postfix-loop-alloc-init
 postfix-loop-alloc-init t c =
     let g = c.in_ok-left.ensures in
-    record { first = g.0; mid = as_seen c.in_ok-left.rest.now; parts = none; first_goes = g.1; on = list_starts SUFFIX (as_seen c.in_ok-left.rest.now) none; is = g.2; inside = g.3 }
+    record { first = g.0; mid = as_seen c.in_ok-left.rest.now; parts = none; first_goes = g.1; on = list_starts PRIMARY_SUFFIX (as_seen c.in_ok-left.rest.now) none; is = g.2; inside = g.3 }
 
 pub postfix-returns-in_err-longer : goal.postfix-returns-in_err-longer
 postfix-returns-in_err-longer t c =
@@ -145,14 +145,14 @@ unary-returns-in-None t c = postfix_gives c.args.ts.now c.postfix.result c.in-No
 pub suffix-returns-in_err-inner-in-Some : goal.suffix-returns-in_err-inner-in-Some
 suffix-returns-in_err-inner-in-Some t c =
     let e = c.in-Some.ensures in
-    exits SUFFIX (λ p x. IsPart p (suffixed (part_value c.args.left) x)) _ _ _ c.from_residual.ensures.1
+    exits PRIMARY_SUFFIX (λ p x. IsPart p (suffixed (part_value c.args.left) x)) _ _ _ c.from_residual.ensures.1
     (fails_second FIELD (picks_element _ _ _ e.0 e.1) (fails_right (goes_sign _ _ _ _ e.0 e.1) (fails_left (sign CloseBracket) c.in_err-inner-in-Some.ensures)))
 
 pub suffix-returns-in_err-closing-in-Some : goal.suffix-returns-in_err-closing-in-Some
 suffix-returns-in_err-closing-in-Some t c =
     let e = c.in-Some.ensures in
     let g = c.in_ok-inner-in-Some.ensures in
-    exits SUFFIX (λ p x. IsPart p (suffixed (part_value c.args.left) x)) _ _ _ c.from_residual-in_err-closing-in-Some.ensures.1
+    exits PRIMARY_SUFFIX (λ p x. IsPart p (suffixed (part_value c.args.left) x)) _ _ _ c.from_residual-in_err-closing-in-Some.ensures.1
     (fails_second FIELD (picks_element _ _ _ e.0 e.1) (fails_right (goes_sign _ _ _ _ e.0 e.1) (fails_right g.1 c.in_err-closing-in-Some.ensures)))
 
 pub suffix-returns-in_ok-element-in-Some : goal.suffix-returns-in_ok-element-in-Some

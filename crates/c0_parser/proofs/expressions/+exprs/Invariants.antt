@@ -1,7 +1,7 @@
 -- What was read so far, and a measure of what is left: the tokens, and how far the functions that read them are nested.
 use Rattle.std.proofs.Common.{◌≡◌, ◌+◌, ◌-◌, ◌*◌, length, true}
 use Rattle.c0_parser.specs.Levels.{level_place, chains}
-use Rattle.c0_parser.proofs.Exprs.{ChainSoFar, SuffixesSoFar}
+use Rattle.c0_parser.proofs.PartsOfExpressions.{ChainSoFar, SuffixesSoFar}
 use Rattle.c0_parser.proofs.expressions.+exprs.Given as goal
 
 abbrev pub decreases-binary : goal.decreases-binary

@@ -5,7 +5,7 @@ use Rattle.c0_parser.specs.Value.{token, pair, suffixed}
 use Rattle.c0_parser.specs.Views.{IsPart}
 use Rattle.c0_parser.specs.Tails.{part_value, FIELD}
 use Rattle.c0_parser.proofs.PieceSteps.{goes_both, fails_right, exits, shorter}
-use Rattle.c0_parser.proofs.Exprs.{goes_field, fails_field}
+use Rattle.c0_parser.proofs.PartsOfExpressions.{goes_field, fails_field}
 use Rattle.c0_parser.proofs.expressions.field_of.Goals as goal
 
 pub returns-in_err-name-in-Some : goal.returns-in_err-name-in-Some

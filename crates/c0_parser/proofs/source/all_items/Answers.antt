@@ -5,7 +5,7 @@ use Rattle.c0_parser.specs.Factored.{FACTORED}
 use Rattle.c0_parser.specs.Contract.{as_seen}
 use Rattle.c0_parser.specs.ToEnd.{AreItems}
 use Rattle.c0_parser.proofs.PieceSteps.{list_begins, list_more, goes_many, fails_list, exits_any}
-use Rattle.c0_parser.proofs.Sources.{item_heads, no_item, items_more}
+use Rattle.c0_parser.proofs.SourcesRead.{item_heads, no_item, items_more}
 use Rattle.c0_parser.proofs.source.all_items.Goals as goal
 
 pub loop-here-init : goal.loop-here-init

@@ -4,7 +4,7 @@ use Rattle.c0_parser.specs.Value.{token}
 use Rattle.c0_parser.specs.Grammar.{one_of}
 use Rattle.c0_parser.specs.Contract.{as_seen}
 use Rattle.c0_parser.proofs.PieceSteps.{goes_both, fails_left, fails_right, fails_by, refuses_one, seen_length}
-use Rattle.c0_parser.proofs.Sources.{exits_to_end, goes_heads}
+use Rattle.c0_parser.proofs.SourcesRead.{exits_to_end, goes_heads}
 use Rattle.c0_parser.proofs.source.items_to_end.Goals as goal
 
 pub returns-in_err-items : goal.returns-in_err-items

@@ -1,7 +1,7 @@
 use Rattle.std.proofs.Common.{ap, ◌∙◌, subst}
 use Rattle.c0_parser.specs.Contract.{as_seen, PieceFails}
 use Rattle.c0_parser.specs.Factored.{SOURCE}
-use Rattle.c0_parser.proofs.Sources.{reads_found, one_tree, fits, not_read_so, fault_of_first_bad}
+use Rattle.c0_parser.proofs.SourcesRead.{reads_found, one_tree, fits, not_read_so, fault_of_first_bad}
 use Rattle.c0_parser.proofs.PlainSources.{reads_plain}
 use Rattle.c0_parser.proofs.source.parse.Goals as goal
 

@@ -8,7 +8,7 @@ use Rattle.c0_parser.specs.Contract.{as_seen}
 use Rattle.c0_parser.specs.Views.{AreStmts, IsBlock}
 use Rattle.c0_parser.specs.Stmts.{CHOICE, OTHERWISE, IsStmtOf, IsOtherwise}
 use Rattle.c0_parser.proofs.PieceSteps.{goes_sign, goes_both, goes_the, goes_with, goes_without, goes_many, heads_at, mark_kind, heads_not, fails_the, fails_left, fails_right, fails_with, exits, exits_any, shorter}
-use Rattle.c0_parser.proofs.Stmts.{choosing, other, listed, braced, stmt_by_choice, stmt_by_loop, stmt_by_assignment, fails_statement, begins_list, goes_further, fails_further}
+use Rattle.c0_parser.proofs.PartsOfStatements.{choosing, other, listed, braced, stmt_by_choice, stmt_by_loop, stmt_by_assignment, fails_statement, begins_list, goes_further, fails_further}
 use Rattle.c0_parser.proofs.statements.+statements.Goals as goal
 
 pub statement-returns-then-next_is : goal.statement-returns-then-next_is

@@ -4,7 +4,7 @@ use Rattle.c0_tokens.specs.declared.token.Mark.TheVariants.{Assign, Semicolon}
 use Rattle.c0_parser.specs.Grammar.{sign, ◌▸◌, RIGHT}
 use Rattle.c0_parser.specs.Stmts.{ASSIGNMENT, IsStmtOf}
 use Rattle.c0_parser.proofs.PieceSteps.{goes_both, fails_left, fails_right, exits}
-use Rattle.c0_parser.proofs.Stmts.{assigned}
+use Rattle.c0_parser.proofs.PartsOfStatements.{assigned}
 use Rattle.c0_parser.proofs.statements.assignment.Goals as goal
 
 pub returns-in_err-place : goal.returns-in_err-place

@@ -4,7 +4,7 @@ use Rattle.c0_tokens.specs.declared.token.Mark.TheVariants.{OpenParen, ClosePare
 use Rattle.c0_parser.specs.Grammar.{sign, ◌▸◌, CALL, ARGS}
 use Rattle.c0_parser.specs.Views.{IsRight}
 use Rattle.c0_parser.proofs.PieceSteps.{goes_both, fails_left, fails_right, exits}
-use Rattle.c0_parser.proofs.Stmts.{called}
+use Rattle.c0_parser.proofs.PartsOfStatements.{called}
 use Rattle.c0_parser.proofs.statements.call.Goals as goal
 
 pub returns-in_err-function : goal.returns-in_err-function

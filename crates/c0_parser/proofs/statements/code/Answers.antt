@@ -4,7 +4,7 @@ use Rattle.c0_parser.specs.Grammar.{◌▸◌, the, many, statement, code, LINE}
 use Rattle.c0_parser.specs.Views.{IsBody}
 use Rattle.c0_parser.specs.Stmts.{RETURNED}
 use Rattle.c0_parser.proofs.PieceSteps.{goes_both, goes_the, fails_the, fails_left, fails_right, exits}
-use Rattle.c0_parser.proofs.Stmts.{bodied}
+use Rattle.c0_parser.proofs.PartsOfStatements.{bodied}
 use Rattle.c0_parser.proofs.statements.code.Goals as goal
 
 pub returns-in_err-rest : goal.returns-in_err-rest

@@ -4,7 +4,7 @@ use Rattle.c0_tokens.specs.declared.token.Mark.TheVariants.{CloseBrace, Semicolo
 use Rattle.c0_parser.specs.Grammar.{sign, ◌▸◌, EXPR}
 use Rattle.c0_parser.specs.Stmts.{RETURNED, IsReturned}
 use Rattle.c0_parser.proofs.PieceSteps.{goes_both, fails_left, fails_right, exits}
-use Rattle.c0_parser.proofs.Stmts.{returning}
+use Rattle.c0_parser.proofs.PartsOfStatements.{returning}
 use Rattle.c0_parser.proofs.statements.returned.Goals as goal
 
 pub returns-in_err-rest : goal.returns-in_err-rest

@@ -6,7 +6,7 @@ use Rattle.c0_parser.specs.Grammar.{sign, ◌▸◌, ◌or◌, the, type, CALL, 
 use Rattle.c0_parser.specs.Contract.{as_seen}
 use Rattle.c0_parser.specs.Views.{IsRight}
 use Rattle.c0_parser.proofs.PieceSteps.{goes_sign, goes_both, goes_first_at, goes_second, goes_second_not, goes_first, mark_kind, heads_not, fails_right, fails_first, fails_first_at, fails_second, fails_second_not, exits, shorter}
-use Rattle.c0_parser.proofs.Stmts.{lifted}
+use Rattle.c0_parser.proofs.PartsOfStatements.{lifted}
 use Rattle.c0_parser.proofs.statements.right_side.Goals as goal
 
 pub returns-in_err-made : goal.returns-in_err-made

@@ -4,7 +4,7 @@ use Rattle.c0_tokens.specs.declared.token.Mark.TheVariants.{OpenParen, ClosePare
 use Rattle.c0_parser.specs.Grammar.{sign, ◌▸◌, EXPR}
 use Rattle.c0_tokens.specs.Tokens.{token_view}
 use Rattle.c0_parser.proofs.PieceSteps.{goes_both, fails_left, fails_right}
-use Rattle.c0_parser.proofs.Stmts.{exits_test, tested}
+use Rattle.c0_parser.proofs.PartsOfStatements.{exits_test, tested}
 use Rattle.c0_parser.proofs.statements.word_and_test.Goals as goal
 
 pub returns-in_err-first : goal.returns-in_err-first

@@ -1,5 +1,5 @@
 -- By the laws that the body calls.
-use Rattle.c0_runtime.proofs.Objects.{new_runs}
+use Rattle.c0_runtime.proofs.NewRoutineEnds.{new_runs}
 use Rattle.c0_runtime.proofs.laws.objects_are_made.Goals as goal
 
 pub returns : goal.returns

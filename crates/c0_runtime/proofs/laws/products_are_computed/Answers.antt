@@ -1,5 +1,5 @@
 -- By the laws that the body calls.
-use Rattle.c0_runtime.proofs.Arithmetic.{multiplies}
+use Rattle.c0_runtime.proofs.RoutinesCompute.{multiplies}
 use Rattle.c0_runtime.proofs.laws.products_are_computed.Goals as goal
 
 pub returns : goal.returns

@@ -1,5 +1,5 @@
 -- By the laws that the body calls.
-use Rattle.c0_runtime.proofs.Arithmetic.{divides}
+use Rattle.c0_runtime.proofs.RoutinesCompute.{divides}
 use Rattle.c0_runtime.proofs.laws.quotients_are_computed.Goals as goal
 
 pub returns : goal.returns

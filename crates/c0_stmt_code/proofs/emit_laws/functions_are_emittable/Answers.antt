@@ -1,5 +1,5 @@
 -- By the judgement by numbers.
-use Rattle.c0_stmt_code.proofs.Emittable.{function_emittable}
+use Rattle.c0_stmt_code.proofs.TypedIsEmittable.{function_emittable}
 use Rattle.c0_stmt_code.proofs.emit_laws.functions_are_emittable.Goals as goal
 
 pub returns : goal.returns

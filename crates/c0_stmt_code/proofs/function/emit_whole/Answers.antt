@@ -7,7 +7,7 @@ use Rattle.c0_meaning.specs.Limits.{locals_of}
 use Rattle.c0_expr_code.specs.Scope.{Scope}
 use Rattle.c0_stmt_code.specs.Code.{body_code, function_code, links_of}
 use Rattle.c0_stmt_code.specs.Emit.{IsEmittableBody}
-use Rattle.c0_stmt_code.specs.EmitLeaf.{HasFrame}
+use Rattle.c0_stmt_code.specs.EmitLeaf.{HasFrameWords}
 use Rattle.c0_expr_code.specs.Scope.{scope_of}
 use Rattle.c0_stmt_code.proofs.FunctionAt.{found, counted, same_some}
 use Rattle.c0_stmt_code.proofs.function.emit_whole.Goals as goal
@@ -24,8 +24,8 @@ emit_body-requires-clause-frame c =
     let f = function_view c.index-function.result.now in
     let is = found c.args.layout.now.unit.now c.unit.result.now c.args.number c.index-function.result.now c.requires.number c.unit.ensures.same c.index-function.ensures in
     let has = c.frames_are_those.ensures c.unit.ensures.well_formed.0 (unit_view c.args.layout.now.unit.now) c.args.number f c.args.addresses.now c.unit.ensures.well_formed.1 is in
-    let P : Scope → Type 0 = λ sc. HasFrame sc c.len-params.result (locals_of f.body) in
-    let Q : ℕ → Type 0 = λ n. HasFrame (scope_of (unit_view c.args.layout.now.unit.now) f c.args.addresses.now) n (locals_of f.body) in
+    let P : Scope → Type 0 = λ sc. HasFrameWords sc c.len-params.result (locals_of f.body) in
+    let Q : ℕ → Type 0 = λ n. HasFrameWords (scope_of (unit_view c.args.layout.now.unit.now) f c.args.addresses.now) n (locals_of f.body) in
     subst P (sym (c.in_ok-scene.ensures f is)) (subst Q (sym (counted c.len-params.result c.index-function.result.now.params c.len-params.ensures)) has)
 
 pub emit_body-requires-clause-body : goal.emit_body-requires-clause-body

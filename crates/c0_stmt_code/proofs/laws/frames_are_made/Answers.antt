@@ -1,5 +1,5 @@
 -- By the parts of the frame, one behind the other.
-use Rattle.c0_stmt_code.proofs.Entry.{frames_made}
+use Rattle.c0_stmt_code.proofs.WholeBegin.{frames_made}
 use Rattle.c0_stmt_code.proofs.laws.frames_are_made.Goals as goal
 
 pub returns : goal.returns

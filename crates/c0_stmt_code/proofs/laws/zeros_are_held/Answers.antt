@@ -2,8 +2,8 @@
 use Rattle.std.proofs.Common.{arith}
 use Rattle.c0_meaning.specs.Value.{zeros_of}
 use Rattle.c0_meaning.specs.TypedState.{types_of}
-use Rattle.c0_stmt_code.proofs.Rooms.{words_by_types}
-use Rattle.c0_stmt_code.proofs.Variables.{zeros_zero, zeros_held}
+use Rattle.c0_stmt_code.proofs.RegionsApart.{words_by_types}
+use Rattle.c0_stmt_code.proofs.VariablesBegin.{zeros_zero, zeros_held}
 use Rattle.c0_stmt_code.proofs.laws.zeros_are_held.Goals as goal
 
 pub returns : goal.returns

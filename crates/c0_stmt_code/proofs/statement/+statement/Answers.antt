@@ -12,7 +12,7 @@ use Rattle.c0_expr_code.specs.Jumps.{patched}
 use Rattle.c0_stmt_code.specs.Code.{links_of, stmts_code}
 use Rattle.c0_stmt_code.specs.Emit.{IsEmittable}
 use Rattle.c0_stmt_code.specs.EmitLeaf.{CanStand}
-use Rattle.c0_stmt_code.proofs.Emitting.{args_stand, otherwise_is, otherwise_fits, from_none, two_longer, jumps_within, choice_words, skipped_long, while_words}
+use Rattle.c0_stmt_code.proofs.TestsGetDistances.{args_stand, otherwise_is, otherwise_fits, from_none, two_longer, jumps_within, choice_words, skipped_long, while_words}
 use Rattle.c0_stmt_code.proofs.statement.+statement.Goals.{emit_while-then-start-end, emit_while-else-start-end}
 use Rattle.c0_stmt_code.proofs.statement.+statement.Goals as goal
 

@@ -1,6 +1,6 @@
 -- Another branch that has a statement begins behind the jump over it.
 use Rattle.std.proofs.Common.{◌<◌, length, arith}
-use Rattle.c0_stmt_code.proofs.Emitting.{otherwise_some}
+use Rattle.c0_stmt_code.proofs.TestsGetDistances.{otherwise_some}
 use Rattle.c0_stmt_code.proofs.statement.behind_jump.Goals as goal
 
 pub overflow_add-result : goal.overflow_add-result

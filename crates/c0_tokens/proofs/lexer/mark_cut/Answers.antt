@@ -5,7 +5,7 @@ use Rattle.std.specs.List.{starts_with}
 use Rattle.c0_tokens.specs.Spelling.{marks}
 use Rattle.c0_tokens.specs.Lexis.{mark_cut}
 use Rattle.c0_tokens.specs.View.{spelling_view}
-use Rattle.c0_tokens.proofs.Spelt.{find_passes, front_within}
+use Rattle.c0_tokens.proofs.SpellingFound.{find_passes, front_within}
 use Rattle.c0_tokens.proofs.lexer.mark_cut.Goals as goal
 
 pub after-requires : goal.after-requires

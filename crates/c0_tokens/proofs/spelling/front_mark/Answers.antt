@@ -3,7 +3,7 @@ use Rattle.std.proofs.Common.{◌∙◌, ◌==◌, ap, find}
 use Rattle.std.specs.Prelude.{option_map}
 use Rattle.std.specs.List.{starts_with}
 use Rattle.c0_tokens.specs.View.{spelling_view}
-use Rattle.c0_tokens.proofs.Spelt.{find_viewed}
+use Rattle.c0_tokens.proofs.SpellingFound.{find_viewed}
 use Rattle.c0_tokens.proofs.spelling.front_mark.Goals as goal
 
 pub returns : goal.returns

@@ -2,7 +2,7 @@
 use Rattle.std.proofs.Common.{◌∙◌, ap, bytes_eq, find}
 use Rattle.std.specs.Prelude.{option_map}
 use Rattle.c0_tokens.specs.View.{spelling_view}
-use Rattle.c0_tokens.proofs.Spelt.{find_viewed}
+use Rattle.c0_tokens.proofs.SpellingFound.{find_viewed}
 use Rattle.c0_tokens.proofs.spelling.reserved.Goals as goal
 
 pub returns : goal.returns

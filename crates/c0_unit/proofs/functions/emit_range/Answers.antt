@@ -7,7 +7,7 @@ use Rattle.c0_tree.specs.View.{unit_view}
 use Rattle.c0_meaning.specs.Limits.{all_nodes}
 use Rattle.c0_stmt_code.specs.Code.{links_of}
 use Rattle.c0_unit.specs.Code.{functions_code, words_of_functions, starts_from}
-use Rattle.c0_unit.proofs.Ordered.{none_in}
+use Rattle.c0_unit.proofs.FunctionsInOrder.{none_in}
 use Rattle.c0_unit.proofs.OneFunctionMore.{few_nodes, grown_code, grown_starts, code_few, starts_placed}
 use Rattle.c0_unit.proofs.functions.emit_range.Goals as goal
 

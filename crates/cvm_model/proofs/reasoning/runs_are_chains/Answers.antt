@@ -1,4 +1,4 @@
-use Rattle.cvm_model.proofs.Systems.{runs_are_chains}
+use Rattle.cvm_model.proofs.SystemsHold.{runs_are_chains}
 use Rattle.cvm_model.proofs.reasoning.runs_are_chains.Goals as goal
 
 pub returns : goal.returns

@@ -1,4 +1,4 @@
-use Rattle.cvm_outside.proofs.Blame.{blame_one}
+use Rattle.cvm_outside.proofs.WhoseFaultsRise.{blame_one}
 use Rattle.cvm_outside.proofs.script.scripts_blame.Goals as goal
 
 pub returns : goal.returns

@@ -1,4 +1,4 @@
-use Rattle.cvm_outside.proofs.Blame.{store}
+use Rattle.cvm_outside.proofs.WhoseFaultsRise.{store}
 use Rattle.cvm_outside.proofs.script.scripts_store.Goals as goal
 
 pub returns : goal.returns

@@ -1,7 +1,7 @@
 -- By the laws that the body calls.
 use Rattle.std.proofs.Common.{refl, arith}
-use Rattle.cvm_primitives.proofs.Forms.{from_later}
-use Rattle.cvm_primitives.proofs.Resize.{vm_resize_good, vm_resize_bad}
+use Rattle.cvm_primitives.proofs.BlocksFromOneState.{from_later}
+use Rattle.cvm_primitives.proofs.PagesResized.{vm_resize_good, vm_resize_bad}
 use Rattle.cvm_primitives.proofs.laws.a_memory_is_resized.Goals as goal
 
 pub returns : goal.returns

@@ -2,7 +2,7 @@
 use Rattle.std.proofs.Common.{refl}
 use Rattle.page_fault.specs.Code.{handle_page_code}
 use Rattle.cvm_primitives.specs.Code.{vm_put_code}
-use Rattle.cvm_primitives.proofs.Forms.{renamed}
+use Rattle.cvm_primitives.proofs.BlocksFromOneState.{renamed}
 use Rattle.cvm_primitives.proofs.WordAccess.{vm_put_good, vm_put_bad}
 use Rattle.cvm_primitives.proofs.laws.a_word_is_put.Goals as goal
 

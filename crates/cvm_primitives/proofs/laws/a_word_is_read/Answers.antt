@@ -2,7 +2,7 @@
 use Rattle.std.proofs.Common.{refl}
 use Rattle.page_fault.specs.Code.{handle_page_code}
 use Rattle.cvm_primitives.specs.Code.{vm_word_code}
-use Rattle.cvm_primitives.proofs.Forms.{renamed}
+use Rattle.cvm_primitives.proofs.BlocksFromOneState.{renamed}
 use Rattle.cvm_primitives.proofs.WordAccess.{vm_word_good, vm_word_bad}
 use Rattle.cvm_primitives.proofs.laws.a_word_is_read.Goals as goal
 

@@ -2,8 +2,8 @@
 use Rattle.std.proofs.Common.{refl}
 use Rattle.page_fault.specs.Code.{handle_page_code}
 use Rattle.cvm_primitives.specs.Code.{vm_copy_code}
-use Rattle.cvm_primitives.proofs.Forms.{renamed}
-use Rattle.cvm_primitives.proofs.Copies.{vm_copy_good, vm_copy_bad}
+use Rattle.cvm_primitives.proofs.BlocksFromOneState.{renamed}
+use Rattle.cvm_primitives.proofs.CopyFromArguments.{vm_copy_good, vm_copy_bad}
 use Rattle.cvm_primitives.proofs.laws.words_are_copied.Goals as goal
 
 pub returns : goal.returns

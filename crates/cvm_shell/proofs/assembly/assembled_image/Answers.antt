@@ -1,5 +1,5 @@
 use Rattle.std.proofs.lemmas.Result.{err_from_is_err_and}
-use Rattle.cvm_shell.proofs.Plans.{text_fault, text_assembled}
+use Rattle.cvm_shell.proofs.FilesComeToPlans.{text_fault, text_assembled}
 use Rattle.cvm_shell.proofs.assembly.assembled_image.Goals as goal
 
 pub returns-in_err-words-clause-comes : goal.returns-in_err-words-clause-comes

@@ -1,6 +1,6 @@
 use Rattle.std.proofs.Common.{◌≡◌, rules}
 use Rattle.std.specs.Prelude.{codes}
-use Rattle.cvm_shell.proofs.ListsOfTwo.{three_texts}
+use Rattle.cvm_shell.proofs.WordsByPlaces.{three_texts}
 use Rattle.cvm_shell.proofs.CheckWords.{words_of_check, words_of_one_check, no_check}
 use Rattle.cvm_shell.proofs.check.read_check.Goals as goal
 

@@ -1,5 +1,5 @@
 use Rattle.std.proofs.Common.{◌≡◌, decimal, arith}
-use Rattle.cvm_shell.proofs.Spellings.{same_number}
+use Rattle.cvm_shell.proofs.OneNumberSpelled.{same_number}
 use Rattle.cvm_shell.proofs.check.read_stack.Goals as goal
 
 pub returns-then-number-lt-LEAST_STACK : goal.returns-then-number-lt-LEAST_STACK

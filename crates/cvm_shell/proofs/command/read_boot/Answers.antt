@@ -1,7 +1,7 @@
 use Rattle.std.proofs.Common.{ap, arith, Some}
 use Rattle.run_scripts.specs.Command.{BootCommand}
-use Rattle.cvm_shell.proofs.ListsOfFive.{five_texts}
-use Rattle.cvm_shell.proofs.Spellings.{words_of_boot, words_of_one, none_for_start, none_for_turns, none_for_steps}
+use Rattle.cvm_shell.proofs.WordsByPlaces.{five_texts}
+use Rattle.cvm_shell.proofs.OneNumberSpelled.{words_of_boot, words_of_one, none_for_start, none_for_turns, none_for_steps}
 use Rattle.cvm_shell.proofs.command.read_boot.Goals as goal
 
 pub returns-in_err-start-clause-none : goal.returns-in_err-start-clause-none

@@ -1,7 +1,7 @@
 use Rattle.std.proofs.Common.{◌≡◌, rules}
 use Rattle.std.specs.Prelude.{codes}
-use Rattle.cvm_shell.proofs.ListsOfFour.{four_texts}
-use Rattle.cvm_shell.proofs.Spellings.{words_of_user, words_of_one_user}
+use Rattle.cvm_shell.proofs.WordsByPlaces.{four_texts}
+use Rattle.cvm_shell.proofs.OneNumberSpelled.{words_of_user, words_of_one_user}
 use Rattle.cvm_shell.proofs.command.read_compile_user.Goals as goal
 
 pub returns-clause-found : goal.returns-clause-found

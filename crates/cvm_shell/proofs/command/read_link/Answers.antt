@@ -1,7 +1,7 @@
 use Rattle.std.proofs.Common.{◌≡◌, refl, rules}
 use Rattle.std.specs.Prelude.{codes}
-use Rattle.cvm_shell.proofs.ListsOfFour.{more_texts}
-use Rattle.cvm_shell.proofs.Spellings.{words_of_link}
+use Rattle.cvm_shell.proofs.WordsByPlaces.{more_texts}
+use Rattle.cvm_shell.proofs.OneNumberSpelled.{words_of_link}
 use Rattle.cvm_shell.proofs.command.read_link.Goals as goal
 
 pub returns-clause-found : goal.returns-clause-found

@@ -1,7 +1,7 @@
 use Rattle.std.proofs.Common.{◌≡◌, rules}
 use Rattle.std.specs.Prelude.{codes}
-use Rattle.cvm_shell.proofs.ListsOfTwo.{three_texts}
-use Rattle.cvm_shell.proofs.Spellings.{words_of_migrate, words_of_one_migrate}
+use Rattle.cvm_shell.proofs.WordsByPlaces.{three_texts}
+use Rattle.cvm_shell.proofs.OneNumberSpelled.{words_of_migrate, words_of_one_migrate}
 use Rattle.cvm_shell.proofs.command.read_migrate.Goals as goal
 
 pub returns-clause-found : goal.returns-clause-found

@@ -1,6 +1,6 @@
 use Rattle.std.proofs.Common.{◌≡◌, ℕ, length, Some, None, ◌∙◌, sym, ap}
 use Rattle.cvm_text.specs.Number.{spelled_number_at}
-use Rattle.cvm_shell.proofs.Spellings.{whole_number}
+use Rattle.cvm_shell.proofs.OneNumberSpelled.{whole_number}
 use Rattle.cvm_shell.proofs.command.read_number.Goals as goal
 
 pub returns-in_err-number : goal.returns-in_err-number

@@ -1,7 +1,7 @@
 use Rattle.std.proofs.Common.{◌≡◌, arith, rules}
 use Rattle.std.specs.Prelude.{codes}
-use Rattle.cvm_shell.proofs.ListsOfTwo.{two_texts}
-use Rattle.cvm_shell.proofs.Spellings.{words_of_sample, words_of_one_sample, no_sample}
+use Rattle.cvm_shell.proofs.WordsByPlaces.{two_texts}
+use Rattle.cvm_shell.proofs.OneNumberSpelled.{words_of_sample, words_of_one_sample, no_sample}
 use Rattle.cvm_shell.proofs.command.read_sample.Goals as goal
 
 pub returns-in_err-number-clause-none : goal.returns-in_err-number-clause-none

@@ -1,8 +1,8 @@
 use Rattle.std.proofs.Common.{◌≡◌, ap, arith, Some, rules}
 use Rattle.std.specs.Prelude.{codes}
 use Rattle.run_scripts.specs.Command.{Trace}
-use Rattle.cvm_shell.proofs.ListsOfFive.{six_texts}
-use Rattle.cvm_shell.proofs.Spellings.{words_of_trace, words_of_one_trace, no_trace_by_turns, no_trace_by_steps, no_trace_by_user}
+use Rattle.cvm_shell.proofs.WordsByPlaces.{six_texts}
+use Rattle.cvm_shell.proofs.OneNumberSpelled.{words_of_trace, words_of_one_trace, no_trace_by_turns, no_trace_by_steps, no_trace_by_user}
 use Rattle.cvm_shell.proofs.command.read_trace.Goals as goal
 
 pub returns-in_err-turns-clause-none : goal.returns-in_err-turns-clause-none

@@ -1,5 +1,5 @@
 use Rattle.std.proofs.Common.{◌≡◌, decimal, arith}
-use Rattle.cvm_shell.proofs.Spellings.{same_number}
+use Rattle.cvm_shell.proofs.OneNumberSpelled.{same_number}
 use Rattle.cvm_shell.proofs.command.read_turns.Goals as goal
 
 pub returns-then-number-eq0 : goal.returns-then-number-eq0

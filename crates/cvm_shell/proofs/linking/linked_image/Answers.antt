@@ -2,7 +2,7 @@ use Rattle.std.proofs.Common.{map, ℕ, Vec, Global}
 use Rattle.std.proofs.lemmas.Result.{err_from_is_err_and}
 use Rattle.cvm_shell.specs.Linked.{IsAcceptedAs, AreAcceptedAs}
 use Rattle.cvm_shell.specs.Stages.{puts_made}
-use Rattle.cvm_shell.proofs.Plans.{if_refused, if_plan}
+use Rattle.cvm_shell.proofs.FilesComeToPlans.{if_refused, if_plan}
 use Rattle.cvm_shell.proofs.AcceptedAs.{if_ok}
 use Rattle.cvm_shell.proofs.LinkPlans.{object_fault, fault_unless, plan_object, params_fault, plan_params, users_fault, plan_users}
 use Rattle.cvm_shell.proofs.linking.linked_image.Goals as goal

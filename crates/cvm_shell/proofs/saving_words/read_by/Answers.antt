@@ -1,6 +1,6 @@
 use Rattle.std.proofs.Common.{◌≡◌, ◌≢◌, ap, arith, Some, rules}
 use Rattle.run_scripts.specs.Command.{Save}
-use Rattle.cvm_shell.proofs.ListsOfFive.{six_texts}
+use Rattle.cvm_shell.proofs.WordsByPlaces.{six_texts}
 use Rattle.cvm_shell.proofs.SaveWords.{words_of_save, words_of_one_save, no_save_by_turns, no_save_by_steps, no_save_by_word}
 use Rattle.cvm_shell.proofs.saving_words.read_by.Goals as goal
 

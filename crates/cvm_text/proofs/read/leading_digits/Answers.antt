@@ -2,7 +2,7 @@
 use Rattle.std.proofs.Common.{sym, ◌∙◌, take, take_all, ap, length, arith}
 use Rattle.std.specs.List.{list_all}
 use Rattle.std.specs.Char.{is_ascii_digit}
-use Rattle.cvm_text.proofs.Digits.{prefix_len_at, prefix_len_all}
+use Rattle.cvm_text.proofs.FrontsOfDigits.{prefix_len_at, prefix_len_all}
 use Rattle.cvm_text.proofs.read.leading_digits.Goals as goal
 
 pub returns-then-not-is_ascii_digit-clause-value : goal.returns-then-not-is_ascii_digit-clause-value

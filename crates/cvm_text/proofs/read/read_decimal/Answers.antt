@@ -1,7 +1,7 @@
 -- What is read is spelled there, and where nothing is read no number is.
 use Rattle.std.proofs.Common.{◌≡◌, rules, sym, ◌∙◌, ap, None, Some}
 use Rattle.cvm_text.specs.Number.{is_spelling, value_of}
-use Rattle.cvm_text.proofs.Spelling.{spelled_is, unspelled, too_large}
+use Rattle.cvm_text.proofs.SpelledIsDecimal.{spelled_is, unspelled, too_large}
 use Rattle.cvm_text.proofs.read.read_decimal.Goals as goal
 
 pub returns-then-not-is_spelling-clause-none : goal.returns-then-not-is_spelling-clause-none

@@ -1,5 +1,5 @@
 -- The law is the lemma on texts.
-use Rattle.cvm_text.proofs.Spelling.{number_at-decimal}
+use Rattle.cvm_text.proofs.SpelledIsDecimal.{number_at-decimal}
 use Rattle.cvm_text.proofs.read.spelled_numbers_are_read.Goals as goal
 
 pub returns : goal.returns

@@ -1,7 +1,7 @@
 -- The value passes the limit with some digit exactly where it does with all of them.
 use Rattle.std.proofs.Common.{◌≡◌, rules, sym, ◌∙◌, ap, take_all, None, Some}
 use Rattle.std.specs.Str.Parse.{digits_value}
-use Rattle.cvm_text.proofs.Digits.{limit_is_small, step_none, step_some, small_value}
+use Rattle.cvm_text.proofs.FrontsOfDigits.{limit_is_small, step_none, step_some, small_value}
 use Rattle.cvm_text.proofs.read.value_of.Goals as goal
 
 pub returns-in_err-value : goal.returns-in_err-value

@@ -1,4 +1,4 @@
-use Rattle.kernel_boots.proofs.Separate.{boots_agree}
+use Rattle.kernel_boots.proofs.TextsChangeNone.{boots_agree}
 use Rattle.kernel_boots.proofs.separation.boots_agree.Goals as goal
 
 pub returns : goal.returns

@@ -1,4 +1,4 @@
-use Rattle.kernel_boots.proofs.Separate.{boots_print_own}
+use Rattle.kernel_boots.proofs.TextsChangeNone.{boots_print_own}
 use Rattle.kernel_boots.proofs.separation.boots_print_own.Goals as goal
 
 pub returns : goal.returns

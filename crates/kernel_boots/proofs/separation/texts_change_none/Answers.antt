@@ -1,4 +1,4 @@
-use Rattle.kernel_boots.proofs.Separate.{texts_change_none}
+use Rattle.kernel_boots.proofs.TextsChangeNone.{texts_change_none}
 use Rattle.kernel_boots.proofs.separation.texts_change_none.Goals as goal
 
 pub returns : goal.returns

@@ -1,4 +1,4 @@
-use Rattle.kernel_boots.proofs.Separate.{traces_are_own}
+use Rattle.kernel_boots.proofs.TextsChangeNone.{traces_are_own}
 use Rattle.kernel_boots.proofs.separation.traces_are_own.Goals as goal
 
 pub returns : goal.returns

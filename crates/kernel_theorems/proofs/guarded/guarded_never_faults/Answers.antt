@@ -1,4 +1,4 @@
-use Rattle.kernel_theorems.proofs.Guardeds.{guarded_never_faults}
+use Rattle.kernel_theorems.proofs.GuardedNeverFaults.{guarded_never_faults}
 use Rattle.kernel_theorems.proofs.guarded.guarded_never_faults.Goals as goal
 
 pub returns : goal.returns

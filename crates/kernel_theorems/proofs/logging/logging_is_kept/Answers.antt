@@ -1,4 +1,4 @@
-use Rattle.kernel_theorems.proofs.Loggings.{logging_is_kept}
+use Rattle.kernel_theorems.proofs.LoggingIsKept.{logging_is_kept}
 use Rattle.kernel_theorems.proofs.logging.logging_is_kept.Goals as goal
 
 pub returns : goal.returns

@@ -1,4 +1,4 @@
-use Rattle.kernel_theorems.proofs.Mailboxes.{messages_are_delivered}
+use Rattle.kernel_theorems.proofs.MessagesDelivered.{messages_are_delivered}
 use Rattle.kernel_theorems.proofs.mailbox.messages_are_delivered.Goals as goal
 
 pub returns : goal.returns

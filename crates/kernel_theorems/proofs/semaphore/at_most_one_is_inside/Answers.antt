@@ -1,4 +1,4 @@
-use Rattle.kernel_theorems.proofs.Semaphores.{at_most_one_is_inside}
+use Rattle.kernel_theorems.proofs.AtMostOneInside.{at_most_one_is_inside}
 use Rattle.kernel_theorems.proofs.semaphore.at_most_one_is_inside.Goals as goal
 
 pub returns : goal.returns

@@ -1,5 +1,5 @@
 -- By the law of the code, from the jump of the entry to the return.
-use Rattle.real_layer.proofs.Exits.{tools_of}
+use Rattle.real_layer.proofs.RoutinesAndExits.{tools_of}
 use Rattle.layer_sharing.proofs.CopyOnMachine.{Needs, copies_share}
 use Rattle.layer_sharing.proofs.laws.the_last_page_is_shared.Goals as goal
 

@@ -1,5 +1,5 @@
-use Rattle.boot_run.proofs.Premises.{are_disk}
-use Rattle.machine_save.proofs.Premises.{are_taken_up}
+use Rattle.boot_run.proofs.PremisesOfBoots.{are_disk}
+use Rattle.machine_save.proofs.PremisesOfSaves.{are_taken_up}
 use Rattle.machine_save.proofs.laws.boots_hold.Goals as goal
 
 pub returns-clause-boots : goal.returns-clause-boots

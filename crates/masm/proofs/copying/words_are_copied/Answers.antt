@@ -1,5 +1,5 @@
 -- By the laws that the body calls.
-use Rattle.masm.proofs.Copy.{copy_runs}
+use Rattle.masm.proofs.WordsCopied.{copy_runs}
 use Rattle.masm.proofs.copying.words_are_copied.Goals as goal
 
 pub returns : goal.returns

@@ -1,5 +1,5 @@
 -- By induction on what the loop may still spend.
-use Rattle.masm.proofs.Loops.{loop_pays}
+use Rattle.masm.proofs.LoopsPay.{loop_pays}
 use Rattle.masm.proofs.laws.a_loop_pays.Goals as goal
 
 pub returns : goal.returns

@@ -1,5 +1,5 @@
 -- By parts.
-use Rattle.masm.proofs.Blocks.{in_range}
+use Rattle.masm.proofs.LoopsAndRoutines.{in_range}
 use Rattle.masm.proofs.laws.blocks_are_in_range.Goals as goal
 
 pub returns : goal.returns

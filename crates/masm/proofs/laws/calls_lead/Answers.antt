@@ -1,5 +1,5 @@
 -- From where jumps lead.
-use Rattle.masm.proofs.Calls.{calls_lead}
+use Rattle.masm.proofs.CallsAndReturns.{calls_lead}
 use Rattle.masm.proofs.laws.calls_lead.Goals as goal
 
 pub returns : goal.returns

@@ -1,7 +1,7 @@
 -- By the laws that the body calls.
 use Rattle.std.proofs.Common.{[], ◌∷◌, arith}
 use Rattle.mips_table.specs.declared.inst.Inst.TheVariants.{Lw}
-use Rattle.masm.proofs.Wait.{wait_runs}
+use Rattle.masm.proofs.WaitEnds.{wait_runs}
 use Rattle.masm.proofs.waiting.the_disk_is_waited_for.Goals as goal
 
 pub returns : goal.returns

@@ -2,7 +2,7 @@
 use Rattle.std.proofs.Common.{◌∷◌, [], sym, ap, ◌∙◌}
 use Rattle.std.specs.Option.{option_map_or}
 use Rattle.mips_asm.specs.Text.{colon_parts}
-use Rattle.mips_asm.proofs.Labels.{labels_next}
+use Rattle.mips_asm.proofs.LabelsAtStart.{labels_next}
 use Rattle.mips_asm.proofs.line.next_label.Goals as goal
 
 pub returns-then-is_name-clause-labels : goal.returns-then-is_name-clause-labels

@@ -2,7 +2,7 @@
 use Rattle.std.proofs.Common.{◌∷◌, [], sym, ap, ◌∙◌}
 use Rattle.std.specs.Option.{option_map_or}
 use Rattle.mips_asm.specs.Text.{colon_parts}
-use Rattle.mips_asm.proofs.Labels.{colon_left_of}
+use Rattle.mips_asm.proofs.LabelsAtStart.{colon_left_of}
 use Rattle.mips_asm.proofs.line.of_content.Goals as goal
 
 pub returns-in-Some : goal.returns-in-Some

@@ -1,7 +1,7 @@
 -- Too few operands, a code that is left out, and too many.
 use Rattle.std.proofs.Common.{sym, ◌∙◌}
 use Rattle.mips_asm.specs.View.{line_view}
-use Rattle.mips_asm.proofs.Operands.{too_many}
+use Rattle.mips_asm.proofs.TooFewOrTooMany.{too_many}
 use Rattle.mips_asm.proofs.line.with_operands.Goals as goal
 
 pub returns-in-Some-rest : goal.returns-in-Some-rest

@@ -1,6 +1,6 @@
 -- At most ten digits write a number below 10 ^ 10.
 use Rattle.std.proofs.Common.{arith, sym, ◌∙◌}
-use Rattle.mips_asm.proofs.Numbers.{decimal_small}
+use Rattle.mips_asm.proofs.NumbersReadBack.{decimal_small}
 use Rattle.mips_asm.proofs.number.decimal_number.Goals as goal
 
 pub decimal_value-requires-clause-fits : goal.decimal_value-requires-clause-fits

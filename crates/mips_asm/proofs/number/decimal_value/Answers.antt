@@ -2,7 +2,7 @@
 use Rattle.std.proofs.Common.{get_or, arith}
 use Rattle.std.specs.Char.{is_ascii_digit}
 use Rattle.std.proofs.lemmas.Int.Digits.{digits_value_more}
-use Rattle.mips_asm.proofs.Numbers.{next_fits, all_at, digit_is}
+use Rattle.mips_asm.proofs.NumbersReadBack.{next_fits, all_at, digit_is}
 use Rattle.mips_asm.proofs.number.decimal_value.Goals as goal
 
 pub overflow_mul-n : goal.overflow_mul-n

@@ -1,6 +1,6 @@
 -- At most eight digits write a number below 2 ^ 32.
 use Rattle.std.proofs.Common.{arith, sym, ◌∙◌}
-use Rattle.mips_asm.proofs.Numbers.{hexadecimal_fits}
+use Rattle.mips_asm.proofs.NumbersReadBack.{hexadecimal_fits}
 use Rattle.mips_asm.proofs.number.hexadecimal_number.Goals as goal
 
 pub hexadecimal_value-requires-clause-fits : goal.hexadecimal_value-requires-clause-fits

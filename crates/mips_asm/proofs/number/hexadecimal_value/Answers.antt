@@ -1,7 +1,7 @@
 -- The value so far never passes that of all digits, so no step overflows.
 use Rattle.std.proofs.Common.{arith, sym}
 use Rattle.std.proofs.lemmas.Int.Digits.{digits_value_more}
-use Rattle.mips_asm.proofs.Numbers.{next_fits}
+use Rattle.mips_asm.proofs.NumbersReadBack.{next_fits}
 use Rattle.mips_asm.proofs.number.hexadecimal_value.Goals as goal
 
 pub overflow_mul-n : goal.overflow_mul-n

@@ -6,7 +6,7 @@ use Rattle.mips_asm.specs.Text.{colon_parts, labels_in}
 use Rattle.mips_asm.specs.Assembled.{has}
 use Rattle.mips_asm.specs.Passes.{label_of}
 use Rattle.mips_asm.specs.View.{line_view}
-use Rattle.mips_asm.proofs.Faults.{some_or, fault_is}
+use Rattle.mips_asm.proofs.FirstLineFault.{some_or, fault_is}
 use Rattle.mips_asm.proofs.pass.fault_of_line.Goals as goal
 
 pub returns : goal.returns

@@ -5,7 +5,7 @@ use Rattle.std.specs.Option.{option_map_or}
 use Rattle.mips_asm.specs.Text.{asm_lines}
 use Rattle.mips_asm.specs.Line.{width}
 use Rattle.mips_asm.specs.Passes.{label_of, fault_from}
-use Rattle.mips_asm.proofs.Faults.{found_some, none_there, next_line}
+use Rattle.mips_asm.proofs.FirstLineFault.{found_some, none_there, next_line}
 use Rattle.mips_asm.proofs.pass.first_fault.Goals as goal
 
 pub returns-then-is_some : goal.returns-then-is_some

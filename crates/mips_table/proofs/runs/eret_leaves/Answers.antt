@@ -1,5 +1,5 @@
 -- By what comes in the step.
-use Rattle.mips_table.proofs.Borders.{eret_leaves as leaves}
+use Rattle.mips_table.proofs.RunsBeginAndEnd.{eret_leaves as leaves}
 use Rattle.mips_table.proofs.runs.eret_leaves.Goals as goal
 
 pub returns : goal.returns

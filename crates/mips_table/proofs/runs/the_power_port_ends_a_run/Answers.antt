@@ -1,5 +1,5 @@
 -- By what comes in the step.
-use Rattle.mips_table.proofs.Borders.{power_ends}
+use Rattle.mips_table.proofs.RunsBeginAndEnd.{power_ends}
 use Rattle.mips_table.proofs.runs.the_power_port_ends_a_run.Goals as goal
 
 pub returns : goal.returns

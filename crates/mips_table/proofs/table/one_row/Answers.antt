@@ -1,5 +1,5 @@
 -- The law of rows that pass the test, for any rows.
-use Rattle.mips_table.proofs.Rows.{one}
+use Rattle.mips_table.proofs.RowsShareNoWord.{one}
 use Rattle.mips_table.proofs.table.one_row.Goals as goal
 
 pub returns : goal.returns

@@ -1,5 +1,5 @@
 -- By the laws on runs of code, for the block alone.
-use Rattle.real_layer.proofs.Blocks.{blocks_run as each}
+use Rattle.real_layer.proofs.BlocksRun.{blocks_run as each}
 use Rattle.real_layer.proofs.laws.blocks_run.Goals as goal
 
 pub returns : goal.returns

@@ -1,5 +1,5 @@
 -- By the exits' law on a run of code, and the store to the power port behind it.
-use Rattle.real_layer.proofs.Exits.{tools_of, exits}
+use Rattle.real_layer.proofs.RoutinesAndExits.{tools_of, exits}
 use Rattle.real_layer.proofs.laws.faults_exit.Goals as goal
 
 pub returns : goal.returns

@@ -1,5 +1,5 @@
 -- By the handler's run at a fault, and the two faults of paging.
-use Rattle.real_layer.proofs.Exits.{tools_of}
+use Rattle.real_layer.proofs.RoutinesAndExits.{tools_of}
 use Rattle.real_layer.proofs.FaultSettled.{Handlers, settles, costs}
 use Rattle.real_layer.proofs.laws.faults_settle.Goals as goal
 

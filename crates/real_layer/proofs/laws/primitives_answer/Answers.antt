@@ -1,6 +1,6 @@
 -- By the primitives' laws on runs of code, from the jump of the entry to the return.
-use Rattle.real_layer.proofs.Exits.{tools_of}
-use Rattle.real_layer.proofs.Primitives.{Routines, primitives, grows}
+use Rattle.real_layer.proofs.RoutinesAndExits.{tools_of}
+use Rattle.real_layer.proofs.PrimitivesKeepLaws.{Routines, primitives, grows}
 use Rattle.real_layer.proofs.laws.primitives_answer.Goals as goal
 
 pub returns : goal.returns

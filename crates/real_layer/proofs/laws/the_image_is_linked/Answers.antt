@@ -1,7 +1,7 @@
 -- By the parts of the image, with as many zeros behind it as there are words of code.
 use Rattle.std.proofs.Common.{replicate}
 use Rattle.std.proofs.lemmas.List.{length-replicate}
-use Rattle.real_layer.proofs.Linked.{image_linked}
+use Rattle.real_layer.proofs.ImageIsLinked.{image_linked}
 use Rattle.real_layer.proofs.laws.the_image_is_linked.Goals as goal
 
 pub returns : goal.returns

@@ -1,5 +1,5 @@
 -- By the handler's run after the reset.
-use Rattle.real_layer.proofs.Exits.{tools_of}
+use Rattle.real_layer.proofs.RoutinesAndExits.{tools_of}
 use Rattle.real_layer.proofs.FromReset.{enters_first}
 use Rattle.real_layer.proofs.laws.the_kernel_begins.Goals as goal
 

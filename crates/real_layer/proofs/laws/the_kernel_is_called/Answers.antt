@@ -1,5 +1,5 @@
 -- By the handler's run after an interrupt of a user.
-use Rattle.real_layer.proofs.Exits.{tools_of}
+use Rattle.real_layer.proofs.RoutinesAndExits.{tools_of}
 use Rattle.real_layer.proofs.FromUser.{keeps}
 use Rattle.real_layer.proofs.laws.the_kernel_is_called.Goals as goal
 

@@ -1,5 +1,5 @@
 -- By the laws of leaving on runs of code, and the eret or the store to the power port behind them.
-use Rattle.real_layer.proofs.Exits.{tools_of}
+use Rattle.real_layer.proofs.RoutinesAndExits.{tools_of}
 use Rattle.real_layer.proofs.AfterDispatch.{leaves}
 use Rattle.real_layer.proofs.laws.the_kernel_is_left.Goals as goal
 

@@ -1,4 +1,4 @@
-use Rattle.run_scripts.proofs.Refusals.{files_are_refused}
+use Rattle.run_scripts.proofs.NothingElseRefused.{files_are_refused}
 use Rattle.run_scripts.proofs.laws.files_are_refused.Goals as goal
 
 pub returns : goal.returns

@@ -1,4 +1,4 @@
-use Rattle.run_scripts.proofs.Shapes.{gets_come_first}
+use Rattle.run_scripts.proofs.CallsOfCommands.{gets_come_first}
 use Rattle.run_scripts.proofs.laws.gets_come_first.Goals as goal
 
 pub returns : goal.returns

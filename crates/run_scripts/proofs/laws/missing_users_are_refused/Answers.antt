@@ -1,4 +1,4 @@
-use Rattle.run_scripts.proofs.Refusals.{missing_users_are_refused}
+use Rattle.run_scripts.proofs.NothingElseRefused.{missing_users_are_refused}
 use Rattle.run_scripts.proofs.laws.missing_users_are_refused.Goals as goal
 
 pub returns : goal.returns

@@ -1,4 +1,4 @@
-use Rattle.run_scripts.proofs.Shapes.{nothing_is_loaded}
+use Rattle.run_scripts.proofs.CallsOfCommands.{nothing_is_loaded}
 use Rattle.run_scripts.proofs.laws.nothing_is_loaded.Goals as goal
 
 pub returns : goal.returns

@@ -1,4 +1,4 @@
-use Rattle.run_scripts.proofs.Shapes.{plans_have_shape}
+use Rattle.run_scripts.proofs.CallsOfCommands.{plans_have_shape}
 use Rattle.run_scripts.proofs.laws.plans_have_shape.Goals as goal
 
 pub returns : goal.returns

@@ -1,4 +1,4 @@
-use Rattle.run_scripts.proofs.Refusals.{runs_end}
+use Rattle.run_scripts.proofs.NothingElseRefused.{runs_end}
 use Rattle.run_scripts.proofs.laws.runs_end.Goals as goal
 
 pub returns : goal.returns

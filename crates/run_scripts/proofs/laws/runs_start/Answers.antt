@@ -1,6 +1,6 @@
 -- By the laws that the body calls.
 use Rattle.c0_tree.specs.declared.primitive.Program.TheVariants.{Kernel}
-use Rattle.run_scripts.proofs.Accepted.{accepted_of}
+use Rattle.run_scripts.proofs.AcceptedImages.{accepted_of}
 use Rattle.run_scripts.proofs.RunsStart.{started}
 use Rattle.run_scripts.proofs.laws.runs_start.Goals as goal
 

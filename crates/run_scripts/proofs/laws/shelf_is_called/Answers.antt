@@ -1,4 +1,4 @@
-use Rattle.run_scripts.proofs.Shapes.{shelf_is_called}
+use Rattle.run_scripts.proofs.CallsOfCommands.{shelf_is_called}
 use Rattle.run_scripts.proofs.laws.shelf_is_called.Goals as goal
 
 pub returns : goal.returns

@@ -1,4 +1,4 @@
-use Rattle.run_scripts.proofs.Refusals.{small_disks_are_refused}
+use Rattle.run_scripts.proofs.NothingElseRefused.{small_disks_are_refused}
 use Rattle.run_scripts.proofs.laws.small_disks_are_refused.Goals as goal
 
 pub returns : goal.returns

@@ -1,4 +1,4 @@
-use Rattle.run_scripts.proofs.Causes.{statuses_are_caused}
+use Rattle.run_scripts.proofs.StatusesCaused.{statuses_are_caused}
 use Rattle.run_scripts.proofs.laws.statuses_are_caused.Goals as goal
 
 pub returns : goal.returns

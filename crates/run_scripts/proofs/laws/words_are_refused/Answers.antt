@@ -1,4 +1,4 @@
-use Rattle.run_scripts.proofs.Causes.{words_are_refused}
+use Rattle.run_scripts.proofs.StatusesCaused.{words_are_refused}
 use Rattle.run_scripts.proofs.laws.words_are_refused.Goals as goal
 
 pub returns : goal.returns

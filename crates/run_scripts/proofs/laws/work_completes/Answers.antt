@@ -1,4 +1,4 @@
-use Rattle.run_scripts.proofs.Refusals.{work_completes}
+use Rattle.run_scripts.proofs.NothingElseRefused.{work_completes}
 use Rattle.run_scripts.proofs.laws.work_completes.Goals as goal
 
 pub returns : goal.returns

@@ -1,4 +1,4 @@
-use Rattle.sample_maker.proofs.Steps.{next_user}
+use Rattle.sample_maker.proofs.OnePieceMore.{next_user}
 use Rattle.sample_maker.proofs.program.users_in.Goals as goal
 
 pub loop-user-preserved : goal.loop-user-preserved

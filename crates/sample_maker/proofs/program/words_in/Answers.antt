@@ -1,6 +1,6 @@
 use Rattle.mips_asm.specs.Assembled.{assembled}
 use Rattle.sample_maker.specs.Program.{program_text, sample_words}
-use Rattle.sample_maker.proofs.Steps.{one_answer}
+use Rattle.sample_maker.proofs.OnePieceMore.{one_answer}
 use Rattle.sample_maker.proofs.program.words_in.Goals as goal
 
 pub returns-in-Ok : goal.returns-in-Ok

@@ -1,7 +1,7 @@
 use Rattle.std.proofs.Common.{ℕ, ◌+◌, ◌%◌, ◌++◌, ◌∙◌, ap}
 use Rattle.schedule_file.specs.declared.row.Row.TheVariants.{Busy}
 use Rattle.sample_maker.specs.Sample.{busy_row, schedule_row_text}
-use Rattle.sample_maker.proofs.Steps.{next_row}
+use Rattle.sample_maker.proofs.OnePieceMore.{next_row}
 use Rattle.sample_maker.proofs.schedule.push_busy.Goals as goal
 
 pub loop-n-preserved : goal.loop-n-preserved

@@ -1,5 +1,5 @@
 use Rattle.sample_maker.specs.Sample.{line_row}
-use Rattle.sample_maker.proofs.Steps.{next_row}
+use Rattle.sample_maker.proofs.OnePieceMore.{next_row}
 use Rattle.sample_maker.proofs.schedule.push_lines.Goals as goal
 
 pub loop-i-preserved : goal.loop-i-preserved

@@ -2,7 +2,7 @@
 use Rattle.std.proofs.Common.{Ok, Err, [], ◌∷◌, ◌++◌, ◌∙◌, sym, length}
 use Rattle.std.proofs.lemmas.Result.{err_from_is_err_and}
 use Rattle.saved_file.specs.Tests.{each, end_test, linked_test, size_test, turns_test}
-use Rattle.saved_file.proofs.Walks.{by_row, by_test}
+use Rattle.saved_file.proofs.TestsInARow.{by_row, by_test}
 use Rattle.saved_file.proofs.reading.behind.Goals as goal
 
 pub returns-in_err-end : goal.returns-in_err-end

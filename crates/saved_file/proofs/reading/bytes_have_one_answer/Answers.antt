@@ -1,4 +1,4 @@
-use Rattle.saved_file.proofs.Words.{answer_so, answer_only}
+use Rattle.saved_file.proofs.BytesAsWords.{answer_so, answer_only}
 use Rattle.saved_file.proofs.reading.bytes_have_one_answer.Goals as goal
 
 pub returns-clause-so : goal.returns-clause-so

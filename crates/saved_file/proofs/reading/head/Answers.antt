@@ -2,7 +2,7 @@
 use Rattle.std.proofs.Common.{Ok, Err, ◌++◌, ◌∙◌, sym, length}
 use Rattle.std.proofs.lemmas.Result.{err_from_is_err_and}
 use Rattle.saved_file.specs.Tests.{first_tests, special_tests, count_tests}
-use Rattle.saved_file.proofs.Walks.{by_row}
+use Rattle.saved_file.proofs.TestsInARow.{by_row}
 use Rattle.saved_file.proofs.reading.head.Goals as goal
 
 pub returns-in_err-first-clause-is : goal.returns-in_err-first-clause-is

@@ -1,7 +1,7 @@
 use Rattle.std.proofs.Common.{Ok, Err, ◌∙◌, sym, length, arith}
 use Rattle.std.proofs.lemmas.Result.{err_from_is_err_and}
 use Rattle.saved_file.specs.Tests.{linked_test}
-use Rattle.saved_file.proofs.Walks.{walk_more, walk_end}
+use Rattle.saved_file.proofs.TestsInARow.{walk_more, walk_end}
 use Rattle.saved_file.proofs.reading.links.Goals as goal
 
 pub returns-in_err-link : goal.returns-in_err-link

@@ -1,7 +1,7 @@
 use Rattle.std.proofs.Common.{Ok, Err, ◌∙◌, sym, length}
 use Rattle.std.proofs.lemmas.Result.{err_from_is_err_and}
 use Rattle.saved_file.specs.Tests.{head_tests, tests_behind}
-use Rattle.saved_file.proofs.Walks.{by_row}
+use Rattle.saved_file.proofs.TestsInARow.{by_row}
 use Rattle.saved_file.proofs.reading.look_at.Goals as goal
 
 pub returns-in_err-head : goal.returns-in_err-head

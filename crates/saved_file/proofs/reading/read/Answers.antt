@@ -4,8 +4,8 @@ use Rattle.std.proofs.lemmas.Result.{err_from_is_err_and}
 use Rattle.saved_file.specs.Resumable.{wanted}
 use Rattle.saved_file.specs.Answer.{IsSavedAnswer}
 use Rattle.saved_file.specs.Tests.{tests, all_tried}
-use Rattle.saved_file.proofs.Words.{words_whole, answer_of, answer_so}
-use Rattle.saved_file.proofs.Fitting.{resumable}
+use Rattle.saved_file.proofs.BytesAsWords.{words_whole, answer_of, answer_so}
+use Rattle.saved_file.proofs.AllTestsPass.{resumable}
 use Rattle.saved_file.proofs.reading.read.Goals as goal
 
 pub returns-in_err-look_at-clause-is : goal.returns-in_err-look_at-clause-is

@@ -1,4 +1,4 @@
-use Rattle.saved_file.proofs.Fitting.{resumable, resumables}
+use Rattle.saved_file.proofs.AllTestsPass.{resumable, resumables}
 use Rattle.saved_file.proofs.reading.resumable_words_are_answered.Goals as goal
 
 pub returns-clause-resumable : goal.returns-clause-resumable

@@ -1,7 +1,7 @@
 use Rattle.std.proofs.Common.{Ok, Err, ◌≡◌, ◌∙◌, ◌+◌, ◌-◌, ℕ, sym, ap, length, arith}
 use Rattle.std.proofs.lemmas.Result.{err_from_is_err_and}
 use Rattle.saved_file.specs.Tests.{size_test, each, all_tried}
-use Rattle.saved_file.proofs.Walks.{walk_more, walk_end}
+use Rattle.saved_file.proofs.TestsInARow.{walk_more, walk_end}
 use Rattle.saved_file.proofs.reading.sizes_fit.Goals as goal
 
 pub loop-user-init : goal.loop-user-init

@@ -1,6 +1,6 @@
 -- By the cuts at spaces the line has one word, two, three, or more; two or three words are the row.
 use Rattle.std.proofs.Common.{sym, ◌∙◌}
-use Rattle.schedule_file.proofs.Words.{one_word, two_words, three_words, four_words, cut_last, cut_more, is_none, some_of}
+use Rattle.schedule_file.proofs.WordsOfRows.{one_word, two_words, three_words, four_words, cut_last, cut_more, is_none, some_of}
 use Rattle.schedule_file.proofs.row.row_in.Goals as goal
 
 pub returns-in_err-rest : goal.returns-in_err-rest

@@ -1,5 +1,5 @@
 -- No count of faults rises, since each stays 0.
-use Rattle.shell_cases.proofs.Surely.{no_rise, no_sink, too_long_only, too_small_only}
+use Rattle.shell_cases.proofs.SureStatuses.{no_rise, no_sink, too_long_only, too_small_only}
 use Rattle.shell_cases.proofs.sure.run_surely.Goals as goal
 
 pub returns-clause-sink : goal.returns-clause-sink

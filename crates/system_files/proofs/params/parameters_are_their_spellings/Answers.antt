@@ -1,5 +1,5 @@
-use Rattle.system_files.proofs.Inverse.{spelled}
-use Rattle.system_files.proofs.Read.{read}
+use Rattle.system_files.proofs.ReadIsSpelled.{spelled}
+use Rattle.system_files.proofs.SpelledIsRead.{read}
 use Rattle.system_files.proofs.params.parameters_are_their_spellings.Goals as goal
 
 pub returns-clause-spelled : goal.returns-clause-spelled

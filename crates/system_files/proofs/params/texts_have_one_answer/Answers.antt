@@ -1,4 +1,4 @@
-use Rattle.system_files.proofs.Faults.{answer_so, answer_only}
+use Rattle.system_files.proofs.FirstTextFault.{answer_so, answer_only}
 use Rattle.system_files.proofs.params.texts_have_one_answer.Goals as goal
 
 pub returns-clause-so : goal.returns-clause-so

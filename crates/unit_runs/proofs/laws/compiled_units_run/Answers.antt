@@ -1,5 +1,5 @@
 -- By the laws that the body calls.
-use Rattle.unit_runs.proofs.Compiled.{compiled}
+use Rattle.unit_runs.proofs.CompiledStands.{compiled}
 use Rattle.unit_runs.proofs.laws.compiled_units_run.Goals as goal
 
 pub returns : goal.returns

@@ -1,4 +1,4 @@
-use Rattle.user_c0.proofs.Echoes.{echoes}
+use Rattle.user_c0.proofs.OneEntryEachTurn.{echoes}
 use Rattle.user_c0.proofs.echoing.echoes_for_ever.Goals as goal
 
 pub returns : goal.returns

@@ -8,8 +8,8 @@ use Rattle.layer_contract.specs.Follows.{loaded}
 use Rattle.boot_run.specs.LoadEnds.{names_sector, pages_needed}
 use Rattle.boot_run.specs.Loaded.{boot_load}
 use Rattle.boot_run.specs.RunEnds.{SeesUser}
-use Rattle.boot_run.proofs.Readiness.{first_fits, fresh_run, loaded_ready}
-use Rattle.boot_run.proofs.Loads.{loaded_long, loaded_whole, stands_loaded}
+use Rattle.boot_run.proofs.ReadyForTurns.{first_fits, fresh_run, loaded_ready}
+use Rattle.boot_run.proofs.MadeIsLoaded.{loaded_long, loaded_whole, stands_loaded}
 use Rattle.boot_run.specs.LoadedPages.{user_pages}
 use Rattle.boot_run.proofs.LoadStores.{load_leaves}
 use Rattle.boot_run.proofs.WholeScripts.{load_done, load_broke}

@@ -8,7 +8,7 @@ use Rattle.layer_contract.specs.Boots.{boot_of}
 use Rattle.boot_turns.specs.Rom.{rom_loaded}
 use Rattle.boot_run.specs.Loading.{pages_of_users, system_of, with_rom}
 use Rattle.boot_run.specs.LoadEnds.{names_sector, rom_needed}
-use Rattle.boot_run.proofs.Readiness.{first_fits, fresh_run, loaded_ready}
+use Rattle.boot_run.proofs.ReadyForTurns.{first_fits, fresh_run, loaded_ready}
 use Rattle.boot_run.proofs.LoadStores.{load_leaves}
 use Rattle.boot_run.proofs.RomLoads.{rom_whole, stands_from_rom}
 use Rattle.boot_run.specs.Loaded.{rom_load}

@@ -1,7 +1,7 @@
 use Rattle.std.proofs.Common.{◌∙◌, ap, sym, refl, List, length}
 use Rattle.c0_tree.specs.declared.tree.Unit.{Unit as Source}
 use Rattle.c0_tree.specs.declared.tree.Decl.{Decl}
-use Rattle.boot_run.proofs.Room.{many, inside}
+use Rattle.boot_run.proofs.RoomOfLoaded.{many, inside}
 use Rattle.boot_run.proofs.ClosingCalls.{boot_report_calls, trace_report_calls}
 use Rattle.boot_run.proofs.run.Run.put_report.Goals as goal
 

@@ -1,7 +1,7 @@
 -- The word of a page that is kept lies in memory.
 use Rattle.std.proofs.Common.{eq-eqb}
 use Rattle.mips_machine.specs.Board.{around}
-use Rattle.mips_machine.proofs.Pages.{lies_inside}
+use Rattle.mips_machine.proofs.KeptPagesServe.{lies_inside}
 use Rattle.mips_machine.proofs.board.Board.find.Goals as goal
 
 pub returns-then-address-kept-clause-inside : goal.returns-then-address-kept-clause-inside

@@ -5,7 +5,7 @@ use Rattle.mips_table.specs.declared.special.TheConstants.{PTO}
 use Rattle.mips_table.specs.Machine.{pte_address}
 use Rattle.mips_machine.specs.Board.{Board, around}
 use Rattle.mips_machine.specs.Stretch.{KeepsPage}
-use Rattle.mips_machine.proofs.Pages.{found_serves}
+use Rattle.mips_machine.proofs.KeptPagesServe.{found_serves}
 use Rattle.mips_machine.proofs.board.Board.page_of.Goals as goal
 
 pub returns : goal.returns

@@ -3,7 +3,7 @@ use Rattle.std.proofs.Common.{ap, ◌∙◌, [], ◌/◌}
 use Rattle.mips_table.specs.Device.{port_read}
 use Rattle.sector_disk.specs.Ports.{device_of}
 use Rattle.mips_machine.specs.Board.{Board, around}
-use Rattle.mips_machine.proofs.Ports.{disk_word}
+use Rattle.mips_machine.proofs.WritesBeginCommands.{disk_word}
 use Rattle.mips_machine.proofs.board.Board.read_port.Goals as goal
 
 pub returns-else-word-eq-INPUT-clause-word : goal.returns-else-word-eq-INPUT-clause-word
