@@ -6,7 +6,6 @@ ghost use Rattle.c0_meaning.specs.Asm.{are_allowed_words};
 ghost use Rattle.c0_asm_body.specs.Code.{argument_code, arguments_code, asm_body_code};
 
 use crate::laws::bodies_are_encoded;
-use c0_tree::AsmText;
 use masm::Block;
 use masm::registers::ARGUMENTS;
 use mips_table::Inst;
@@ -16,14 +15,14 @@ use std::vec::Vec;
 /// Appends the words of an asm body, which are of instructions and registers that an asm body may have.
 ///
 /// Want of memory leaves `code` as it was.
-pub fn emit_asm(_alloc: Global, text: &AsmText, code: &mut Vec<u32>) -> Result<(), AllocError>
-    requires { IsTrue (are_allowed_words text.now.words.items) }
-    ensures appended { OnOk result (code.new.items ≡ code.old.items ++ text.now.words.items) }
-    ensures instructions { map encoding (asm_body_code text.now.words.items) ≡ text.now.words.items }
+pub fn emit_asm(_alloc: Global, words: &[u32], code: &mut Vec<u32>) -> Result<(), AllocError>
+    requires { IsTrue (are_allowed_words words.now) }
+    ensures appended { OnOk result (code.new.items ≡ code.old.items ++ words.now) }
+    ensures instructions { map encoding (asm_body_code words.now) ≡ words.now }
     ensures unchanged { OnErr result (code.new.items ≡ code.old.items) }
 {
     bodies_are_encoded();
-    code.extend_from_slice(&text.words)
+    code.extend_from_slice(words)
 }
 
 /// Appends the instructions that set the registers of an asm body, which has `count` arguments, 0 to 4.

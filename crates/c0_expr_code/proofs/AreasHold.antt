@@ -25,7 +25,8 @@ use Rattle.c0_meaning.specs.Unit.{IsWellFormed}
 use Rattle.c0_meaning.specs.RunLaws.{TypesHaveWords}
 use Rattle.c0_meaning.specs.Value.{Region, globals, heap, locals, Location}
 use Rattle.c0_meaning.specs.TypedState.{types_of, variable_types, PathLeads, LeadsFrom, PointsTo, AreDeclared}
-use Rattle.c0_expr_code.specs.Scope.{keeps_registers, scope_of, is_leaf, MAX_REGISTER_VARIABLES}
+use Rattle.c0_typed.specs.Leaf.{MAX_REGISTER_VARIABLES, is_leaf, keeps_registers}
+use Rattle.c0_expr_code.specs.Scope.{scope_of}
 use Rattle.c0_expr_code.specs.Bases.{words_of_all, Bases, types_in, location_word}
 use Rattle.c0_expr_code.specs.Relation.{layout, Area}
 use Rattle.c0_expr_code.specs.Laws.{RegionsApart, RegionsHaveRoom}

@@ -24,7 +24,7 @@ use Rattle.c0_meaning.specs.Sizes.{words_before}
 use Rattle.c0_meaning.specs.Expression.{is_lvalue, target}
 use Rattle.c0_meaning.specs.Judgement.{IsArithmetic, add, sub, mul, div, rem, IsOrdering, lt, le, gt, ge, IsEquality, eq, ne, IsLogical, and, or}
 use Rattle.c0_meaning.specs.Numbered.{variable_at, is_in_frame, is_frame_place, HasNumberedType, a_number, a_true, a_false, a_variable, a_field, a_target_field, an_element, a_target, an_address, a_negative, a_negation, arithmetic, order, logic, equality, null_left, null_right, IsNumberedGiven, a_value, a_null}
-use Rattle.c0_meaning.specs.Value.{Region, globals, heap, locals, Location, Value, int, bool, at, group}
+use Rattle.c0_meaning.specs.Value.{globals, locals, Location, Value, int, bool, at, group}
 use Rattle.c0_meaning.specs.Value as value
 use Rattle.c0_meaning.specs.State.{C0State, read}
 use Rattle.c0_meaning.specs.Operators.{Failure, NullUse, Bounds, faulted, stuck, on_unary, on_binary}
@@ -34,7 +34,7 @@ use Rattle.c0_meaning.specs.TypedState.{types_of, Fits, PathLeads}
 use Rattle.cvm_words.specs.Words.{word_of}
 use Rattle.c0_expr_code.specs.Scope.{Scope}
 use Rattle.c0_expr_code.specs.Bases.{Bases, types_in, word_of_scalar}
-use Rattle.c0_expr_code.specs.Code.{fields_in, element_words, length_in, AddressingMode, Made, constant_code, or_code, access_code, load_code, operand_code, operand_register, at_place, constant, global_address, local_address, register_made, register_of_variable, local_made, variable_made, displaced, target_address, tested_address, element_address, operator_code, two_code, one_code, logic_code, negative_made, unary_made, Immediate, immediate, immediate_of, operator_made, sum_made, is_never_zero, divisor_code, division_made, binary_made, field_made, made}
+use Rattle.c0_expr_code.specs.Code.{fields_in, element_words, length_in, AddressingMode, Made, or_code, access_code, load_code, operand_code, operand_register, at_place, constant, global_address, local_address, register_made, register_of_variable, variable_made, displaced, target_address, tested_address, element_address, operator_code, negative_made, Immediate, immediate, immediate_of, operator_made, sum_made, is_never_zero, divisor_code, binary_made, made}
 use Rattle.c0_expr_code.specs.Relation.{layout, StateIsTyped, Ready, Area, Evaluates, HoldsValue, HoldsAddress, Source, nought, its, far, ValueRuns, OperandRuns, PlaceRuns, Claims, Right}
 use Rattle.c0_expr_code.proofs.CodeRuns.{Machine, later, stays, code_front, code_back}
 use Rattle.c0_expr_code.proofs.OnePartMore.{leads_from_on, length_fits, typed_there}
@@ -47,7 +47,7 @@ use Rattle.c0_expr_code.specs.Reads.{reads, reads_to_find, Covers}
 use Rattle.c0_expr_code.proofs.ElementsTested.{indexes}
 use Rattle.c0_expr_code.proofs.ShortExpressions.{value_length}
 use Rattle.c0_expr_code.proofs.NodeTypes.{type_is, literal_is, small_literal, KnownAs, negative_known, known_is, null_known}
-use Rattle.c0_expr_code.proofs.OperatorsOnRegisters.{Finishes, FinishesFor, Answers, any_answer, IsRing, twos, ones, sums, orders, equals, quotients, remainders, negatives, negations, Skip, skips_and, skips_or, logics}
+use Rattle.c0_expr_code.proofs.OperatorsOnRegisters.{Finishes, Answers, any_answer, twos, ones, sums, orders, equals, quotients, remainders, negatives, negations, Skip, skips_and, skips_or, logics}
 use Rattle.c0_expr_code.proofs.OperatorsOnRegisters as ring
 use Rattle.c0_expr_code.proofs.ConstantOperands.{With, adds_with, adds_left, subtracts_with, below_with, at_most_with, at_least_with, equals_with, differs_with}
 

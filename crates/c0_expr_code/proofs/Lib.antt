@@ -34,11 +34,5 @@ mod ExitsAreNear
 mod OutermostPart
 mod BranchPatched
 mod UnpatchedTests
-mod ScopeOfScene
 mod PowersOfTwo
-mod StructsFound
-mod TypedNumbers
 mod NodesAreMade
-mod TypedKnown
-mod NodePatches
-mod NodeTests

@@ -6,6 +6,7 @@ use Rattle.std.proofs.lemmas.Bool.{cond-true}
 use Rattle.std.proofs.lemmas.Int.{SFits-int_wrap}
 use Rattle.c0_tree.specs.declared.tree.Kind.{Kind}
 use Rattle.c0_tree.specs.declared.tree.Kind.TheVariants.{Unresolved, Struct, Field, Global, Local, Function, Primitive}
+use Rattle.c0_tree.specs.declared.tree.UnaryOp.{UnaryOp}
 use Rattle.c0_tree.specs.declared.tree.UnaryOp.TheVariants.{Negate, Not}
 use Rattle.c0_tree.specs.declared.tree.BinaryOp.{BinaryOp}
 use Rattle.c0_tree.specs.declared.tree.BinaryOp.TheVariants.{Add, Sub, Mul, Div, Rem, Lt, Le, Gt, Ge, Eq, Ne, And, Or}
@@ -24,8 +25,9 @@ use Rattle.c0_meaning.specs.Value as value
 use Rattle.c0_meaning.specs.Operators.{on_unary}
 use Rattle.c0_meaning.specs.Evaluation.{Costed, costs, at_no_cost, paying, ◌>>=◌, value_of}
 use Rattle.cvm_words.specs.Words.{word_of}
+use Rattle.c0_typed.specs.Typed.{written_number}
 use Rattle.c0_expr_code.specs.Scope.{Scope}
-use Rattle.c0_expr_code.specs.Code.{Made, at_place, register_made, register_of_variable, local_address, variable_made, negated, negative_made, Immediate, immediate_of, operator_made, sum_made, binary_made, made}
+use Rattle.c0_expr_code.specs.Code.{Made, at_place, register_made, register_of_variable, local_address, variable_made, negated, negative_made, unary_made, Immediate, immediate_of, operator_made, sum_made, binary_made, made}
 use Rattle.c0_expr_code.specs.Bases.{Bases, word_of_scalar}
 use Rattle.c0_expr_code.specs.Relation.{layout}
 use Rattle.c0_expr_code.proofs.WordsOfValues.{word_pos, word_negative}
@@ -123,7 +125,26 @@ module _ (sc : Scope) where
   none_some : {A : Type 0} (o : Option A) (a : A) → o ≡ None → o ≡ Some a → ⊥
   none_some o a e q = cc
 
-  -- the number that is written
+  unary_literal : (o : UnaryOp) (m : Made) → (unary_made o m).literal ≡ None
+  unary_literal Negate m = negative_literal m.literal m
+  unary_literal Not m = refl
+
+  -- the number that is written is the one that the expression is written as
+  pub literal_written : (e : CExpr) → (made sc e).literal ≡ written_number e
+  literal_written (num p n) = refl
+  literal_written (true_ p) = refl
+  literal_written (false_ p) = refl
+  literal_written (null p) = refl
+  literal_written (var x) = (variable_not_constant x.kind x.number).literal
+  literal_written (field p a f) = refl
+  literal_written (arrow p a f) = refl
+  literal_written (index p a i) = refl
+  literal_written (deref p a) = refl
+  literal_written (address p a) = refl
+  literal_written (unary p o a) = unary_literal o (made sc a)
+  literal_written (binary p o a b) = (binary_not_constant o (made sc a) (made sc b)).literal
+
+  -- and is what the expression comes to
   pub literal_is : (e : CExpr) (c : ℕ) (s : C0State) → (made sc e).literal ≡ Some c → value_of e s ≡ costs 1 (Ok (int (pos c)))
   literal_is (num p n) c s e = let q : n ≡ c = cc in ap (λ m. costs 1 (Ok (int (pos m)))) q
   literal_is (var x) c s e = absurd (none_some _ c (variable_not_constant x.kind x.number).literal e)

@@ -1,5 +1,5 @@
 -- The code of a typed tree is that of the expression.
-use Rattle.std.proofs.Common.{◌≡◌, ℕ, zero, suc, ◌+◌, ◌*◌, ◌-◌, ◌%◌, ◌^◌, ◌<◌, Bool, true, false, not, cond, if◌then◌else◌, nat_lt, min, List, [], ◌∷◌, ◌++◌, length, Option, Some, None, refl, sym, ap, ap₂, ◌∙◌, subst, arith}
+use Rattle.std.proofs.Common.{◌≡◌, ℕ, zero, suc, ◌+◌, ◌*◌, ◌%◌, ◌^◌, ◌<◌, Bool, true, false, not, cond, if◌then◌else◌, nat_lt, min, List, [], ◌∷◌, ◌++◌, length, Option, Some, None, refl, sym, ap, ap₂, ◌∙◌, subst, arith}
 use Rattle.std.specs.Prelude.{slice_get, unwrap_or}
 use Rattle.std.proofs.lemmas.List.{length-map}
 use Rattle.mips_table.specs.declared.inst.Inst.{Inst}
@@ -11,7 +11,7 @@ use Rattle.c0_tree.specs.declared.tree.Kind.TheVariants as kind
 use Rattle.c0_tree.specs.declared.tree.UnaryOp.TheVariants.{Negate}
 use Rattle.c0_tree.specs.declared.tree.BinaryOp.{BinaryOp}
 use Rattle.c0_tree.specs.declared.tree.BinaryOp.TheVariants.{Add, Sub, Mul, Div, Rem, Lt, Le, Gt, Ge, Eq, Ne, And, Or}
-use Rattle.c0_tree.specs.Tree.{CExpr, num, true_, false_, null, var, field, arrow, index, deref, address, unary, binary}
+use Rattle.c0_tree.specs.Tree.{CExpr, num, null, field, arrow, index, deref, address, unary, binary}
 use Rattle.c0_meaning.specs.Ty.{Ty, pointer, named, array}
 use Rattle.c0_meaning.specs.Env.{Shape, Typed}
 use Rattle.c0_meaning.specs.Expression.{target}
@@ -26,16 +26,14 @@ use Rattle.c0_typed.specs.declared.tree.Elements.{Elements}
 use Rattle.c0_typed.specs.Laws.{VariablesAreThose, FieldsAreThose, ElementsAreThose}
 use Rattle.c0_typed.specs.Tree.{TExpr}
 use Rattle.c0_typed.specs.Tree as tree
-use Rattle.c0_typed.specs.Typed.{field_bytes, elements_in, written, typed_element, typed_negative, typed_binary, typed_of_expr, typed_variable}
+use Rattle.c0_typed.specs.Typed.{field_bytes, elements_in, written_number, typed_element, typed_negative, typed_binary, typed_of_expr, typed_variable}
 use Rattle.c0_expr_code.specs.Scope.{Scope}
-use Rattle.c0_expr_code.specs.Setting.{setting_of}
+use Rattle.c0_expr_code.specs.FrameSetting.{frame_setting}
 use Rattle.c0_expr_code.specs.Code.{AddressingMode, Made, Immediate, access_code, at_place, binary_made, bound_code, displaced, division_made, divisor_code, element_address, element_words, fields_in, immediate_of, is_never_zero, length_in, local_address, made, negative_made, one_code, only_value, operand_code, operand_register, operator_made, or_code, register_made, register_of_variable, scale_code, scaled_code, shift_within, sum_made, target_address, tested_address, two_code, variable_made, POWERS}
 use Rattle.c0_expr_code.specs.Emit.{scaled_at}
-use Rattle.c0_expr_code.specs.Known.{literal_of}
 use Rattle.c0_expr_code.specs.Node.{IsSameMade, division_node, divisor_test, element_place, global_place, local_place, target_place, node_made, node_test, NodesAreMade}
 use Rattle.c0_expr_code.specs.Test.{ImmediateTest, both_code, branch_code, compare_code, compare_test, immediate_test_of, plain_test, test_code}
-use Rattle.c0_expr_code.proofs.OutermostPart.{literal_is}
-use Rattle.c0_expr_code.proofs.NodeTypes.{type_is}
+use Rattle.c0_expr_code.proofs.NodeTypes.{literal_written, type_is}
 use Rattle.c0_expr_code.proofs.PowersOfTwo.{capped_shift}
 
 -- a node with no number written
@@ -61,7 +59,7 @@ module _ (m n : Made) (h : IsSameMade m n) where
   one_same : (f : ℕ → List Inst) (r : ℕ) → one_code f m r ≡ one_code f n r
   one_same f r = λ j. operand_same r j ++ f (register_same r j)
 
-  target_same : (sc : Scope) (r : ℕ) → target_address sc m r ≡ target_place (setting_of sc) n r
+  target_same : (sc : Scope) (r : ℕ) → target_address sc m r ≡ target_place (frame_setting sc) n r
   target_same sc r = λ j. record {
     code = operand_same r j ++ (Bne (register_same r j) 0 1 ∷ J (sc.exit NullUse) ∷ []);
     base = register_same r j;
@@ -124,23 +122,23 @@ greater_same a b None = refl
 greater_same a b (Some k) = refl
 
 division_same : (sc : Scope) (takes : ℕ → Inst) (a b : Made) (sure : Bool) (d r : ℕ)
-    → two_code (λ q t. divisor_test (setting_of sc) sure t ++ (Divide q t ∷ takes d ∷ [])) a b r ≡ two_code (λ q t. divisor_code sc sure t ++ (Divide q t ∷ takes d ∷ [])) a b r
+    → two_code (λ q t. divisor_test (frame_setting sc) sure t ++ (Divide q t ∷ takes d ∷ [])) a b r ≡ two_code (λ q t. divisor_code sc sure t ++ (Divide q t ∷ takes d ∷ [])) a b r
 division_same sc takes a b true d r = refl
 division_same sc takes a b false d r = refl
 
-divided : (sc : Scope) (takes : ℕ → Inst) (a b : Made) → division_node (setting_of sc) takes a b ≡ division_made sc takes a b
+divided : (sc : Scope) (takes : ℕ → Inst) (a b : Made) → division_node (frame_setting sc) takes a b ≡ division_made sc takes a b
 divided sc takes a b = λ j. only_value (λ d r. division_same sc takes a b (is_never_zero b.known) d r j)
 
 node_binary : (sc : Scope) (o : BinaryOp) (x y : TExpr)
-    → node_made (setting_of sc) (typed_binary o x y) ≡ binary_made sc o (node_made (setting_of sc) x) (node_made (setting_of sc) y)
+    → node_made (frame_setting sc) (typed_binary o x y) ≡ binary_made sc o (node_made (frame_setting sc) x) (node_made (frame_setting sc) y)
 node_binary sc Add x y = refl
 node_binary sc Sub x y = refl
-node_binary sc Mul x y = product_same (node_made (setting_of sc) x) (node_made (setting_of sc) y) (node_made (setting_of sc) y).known
-node_binary sc Div x y = divided sc (λ d. Mflo d) (node_made (setting_of sc) x) (node_made (setting_of sc) y)
-node_binary sc Rem x y = divided sc (λ d. Mfhi d) (node_made (setting_of sc) x) (node_made (setting_of sc) y)
+node_binary sc Mul x y = product_same (node_made (frame_setting sc) x) (node_made (frame_setting sc) y) (node_made (frame_setting sc) y).known
+node_binary sc Div x y = divided sc (λ d. Mflo d) (node_made (frame_setting sc) x) (node_made (frame_setting sc) y)
+node_binary sc Rem x y = divided sc (λ d. Mfhi d) (node_made (frame_setting sc) x) (node_made (frame_setting sc) y)
 node_binary sc Lt x y = refl
 node_binary sc Le x y = refl
-node_binary sc Gt x y = greater_same (node_made (setting_of sc) x) (node_made (setting_of sc) y) (node_made (setting_of sc) y).known
+node_binary sc Gt x y = greater_same (node_made (frame_setting sc) x) (node_made (frame_setting sc) y) (node_made (frame_setting sc) y).known
 node_binary sc Ge x y = refl
 node_binary sc Eq x y = refl
 node_binary sc Ne x y = refl
@@ -161,24 +159,6 @@ below_length [] n x h = cc
 below_length (y ∷ xs) zero x h = omega arith
 below_length (y ∷ xs) (suc n) x h = let r = below_length xs n x h in omega arith
 
--- the number that is written
-written_is : (e : CExpr) → literal_of e ≡ written e
-written_is (num s n) = refl
-written_is (true_ s) = refl
-written_is (false_ s) = refl
-written_is (null s) = refl
-written_is (var x) = refl
-written_is (field s e f) = refl
-written_is (arrow s e f) = refl
-written_is (index s e i) = refl
-written_is (deref s e) = refl
-written_is (address s e) = refl
-written_is (unary s o e) = refl
-written_is (binary s o a b) = refl
-
-literal_written : (sc : Scope) (e : CExpr) → (made sc e).literal ≡ written e
-literal_written sc e = sym (literal_is sc e) ∙ written_is e
-
 -- elements of so many words
 scaled_same : (w q : ℕ) → scale_code w q ≡ scaled_at (shift_within POWERS (min w 1048577)) (4 * w % 2 ^ 32) q
 scaled_same w q = by (shift_within POWERS w) ∙ ap (λ (o : Option ℕ). scaled_at o (4 * w % 2 ^ 32) q) (sym (capped_shift w))
@@ -188,7 +168,7 @@ scaled_same w q = by (shift_within POWERS w) ∙ ap (λ (o : Option ℕ). scaled
     by None = refl
 
 element_same : (sc : Scope) (structs : List Shape) (t : Ty) (n : ℕ) (a b : AddressingMode) (m p : Made) (r : ℕ) → a ≡ b → IsSameMade m p
-    → tested_address sc (words structs t) n a m r ≡ element_place (setting_of sc) (elements_in structs (Some (array t n))) b p r
+    → tested_address sc (words structs t) n a m r ≡ element_place (frame_setting sc) (elements_in structs (Some (array t n))) b p r
 element_same sc structs t n a b m p r e h = λ j. record {
   code = (e j).code
       ++ (operand_same m p h (r + 1) j
@@ -223,9 +203,9 @@ equality_compares _ ne = tt
 
 module _ (sc : Scope) (variables : VariablesAreThose) (fields : FieldsAreThose) (elements : ElementsAreThose) where
   local_same : (n w : ℕ) (b : Bool) → w ≡ words_before sc.env.structs (types_of sc.env.locals) n
-      → IsSameMade (cond b (register_made (register_of_variable n)) (at_place (λ r. local_address sc n))) (cond b (register_made (register_of_variable n)) (at_place (λ r. local_place (setting_of sc) w)))
+      → IsSameMade (cond b (register_made (register_of_variable n)) (at_place (λ r. local_address sc n))) (cond b (register_made (register_of_variable n)) (at_place (λ r. local_place (frame_setting sc) w)))
   local_same n w true e = all_same _
-  local_same n w false e = at_same _ _ (λ r. ap (λ (k : ℕ). local_place (setting_of sc) k) (sym e))
+  local_same n w false e = at_same _ _ (λ r. ap (λ (k : ℕ). local_place (frame_setting sc) k) (sym e))
 
   abbrev of_local : TExpr → ℕ
   of_local (tree.local n w) = w
@@ -235,7 +215,7 @@ module _ (sc : Scope) (variables : VariablesAreThose) (fields : FieldsAreThose) 
   of_global (tree.global k) = k
   of_global _ = 0
 
-  variable_same : (k : Kind) (n : ℕ) (d : Typed) → variable_at sc.env k n ≡ Some d → IsSameMade (variable_made sc k n) (node_made (setting_of sc) (typed_variable sc.env k n))
+  variable_same : (k : Kind) (n : ℕ) (d : Typed) → variable_at sc.env k n ≡ Some d → IsSameMade (variable_made sc k n) (node_made (frame_setting sc) (typed_variable sc.env k n))
   variable_same kind.Global n d h = at_same _ _ (λ r. ap (λ (k : ℕ). global_place k) (sym (ap of_global (variables.of_globals sc.env n (below_length _ n d h)))))
   variable_same kind.Local n d h = local_same n _ sc.in_registers (ap of_local (variables.of_locals sc.env n (below_length _ n d h)))
   variable_same kind.Unresolved n d h = absurd (cc)
@@ -255,28 +235,28 @@ module _ (sc : Scope) (variables : VariablesAreThose) (fields : FieldsAreThose) 
       ∙ ap (λ (u : Option Ty). 4 * words_before sc.env.structs (fields_in sc.env.structs u) n % 2 ^ 32) (sym e)
 
   -- an element, by the number that its index is written as
-  index_same : (t : Ty) (n : ℕ) (a : ℕ → AddressingMode) (x : TExpr) (i : CExpr) → ((r : ℕ) → a r ≡ (node_made (setting_of sc) x).place r)
-      → IsSameMade (made sc i) (node_made (setting_of sc) (typed_of_expr sc.env i)) → (o : Option ℕ)
-      → IsSameMade (at_place (λ r. element_address sc (words sc.env.structs t) n o (a r) (made sc i) r)) (node_made (setting_of sc) (typed_element (elements_in sc.env.structs (Some (array t n))) x (typed_of_expr sc.env i) o))
+  index_same : (t : Ty) (n : ℕ) (a : ℕ → AddressingMode) (x : TExpr) (i : CExpr) → ((r : ℕ) → a r ≡ (node_made (frame_setting sc) x).place r)
+      → IsSameMade (made sc i) (node_made (frame_setting sc) (typed_of_expr sc.env i)) → (o : Option ℕ)
+      → IsSameMade (at_place (λ r. element_address sc (words sc.env.structs t) n o (a r) (made sc i) r)) (node_made (frame_setting sc) (typed_element (elements_in sc.env.structs (Some (array t n))) x (typed_of_expr sc.env i) o))
   index_same t n a x i e h None = at_same _ _ (λ r. element_same sc sc.env.structs t n (a r) _ (made sc i) _ r (e r) h)
   index_same t n a x i e h (Some c) = by (nat_lt c n)
     where
       by : (b : Bool)
           → IsSameMade (at_place (λ r. if b then displaced (4 * (c * words sc.env.structs t)) (a r) else tested_address sc (words sc.env.structs t) n (a r) (made sc i) r))
-          (node_made (setting_of sc) (if b then tree.part x (c * (elements_in sc.env.structs (Some (array t n))).bytes % 2 ^ 32) else tree.element x (typed_of_expr sc.env i) (elements_in sc.env.structs (Some (array t n)))))
+          (node_made (frame_setting sc) (if b then tree.part x (c * (elements_in sc.env.structs (Some (array t n))).bytes % 2 ^ 32) else tree.element x (typed_of_expr sc.env i) (elements_in sc.env.structs (Some (array t n)))))
       by true = at_same _ _ (λ r. displaced_same (a r) _ (4 * (c * words sc.env.structs t)) _ (e r) (elements.before sc.env.structs t n c))
       by false = at_same _ _ (λ r. element_same sc sc.env.structs t n (a r) _ (made sc i) _ r (e r) h)
 
-  negative_same : (e : CExpr) (x : TExpr) → IsSameMade (made sc e) (node_made (setting_of sc) x) → (o : Option ℕ)
-      → IsSameMade (negative_made o (made sc e)) (node_made (setting_of sc) (typed_negative x o))
-  negative_same e x h None = only_same _ _ (λ d r. one_same (made sc e) (node_made (setting_of sc) x) h (λ q. Subu d 0 q ∷ []) r)
+  negative_same : (e : CExpr) (x : TExpr) → IsSameMade (made sc e) (node_made (frame_setting sc) x) → (o : Option ℕ)
+      → IsSameMade (negative_made o (made sc e)) (node_made (frame_setting sc) (typed_negative x o))
+  negative_same e x h None = only_same _ _ (λ d r. one_same (made sc e) (node_made (frame_setting sc) x) h (λ q. Subu d 0 q ∷ []) r)
   negative_same e x h (Some n) = record { value = λ d r. refl; place = λ r. refl; stands = refl; known = refl }
 
-  between : (o : BinaryOp) (a b : CExpr) → IsSameMade (made sc a) (node_made (setting_of sc) (typed_of_expr sc.env a)) → IsSameMade (made sc b) (node_made (setting_of sc) (typed_of_expr sc.env b))
-      → IsSameMade (binary_made sc o (made sc a) (made sc b)) (node_made (setting_of sc) (typed_binary o (typed_of_expr sc.env a) (typed_of_expr sc.env b)))
+  between : (o : BinaryOp) (a b : CExpr) → IsSameMade (made sc a) (node_made (frame_setting sc) (typed_of_expr sc.env a)) → IsSameMade (made sc b) (node_made (frame_setting sc) (typed_of_expr sc.env b))
+      → IsSameMade (binary_made sc o (made sc a) (made sc b)) (node_made (frame_setting sc) (typed_binary o (typed_of_expr sc.env a) (typed_of_expr sc.env b)))
   between o a b h g = from_equal _ _ _ (binary_same sc o _ _ _ _ h g) (sym (node_binary sc o (typed_of_expr sc.env a) (typed_of_expr sc.env b)))
 
-  same : (e : CExpr) (t : Ty) → HasNumberedType sc.env e t → IsSameMade (made sc e) (node_made (setting_of sc) (typed_of_expr sc.env e))
+  same : (e : CExpr) (t : Ty) → HasNumberedType sc.env e t → IsSameMade (made sc e) (node_made (frame_setting sc) (typed_of_expr sc.env e))
   same _ _ (a_number h) = record { value = λ d r. refl; place = λ r. refl; stands = refl; known = refl }
   same _ _ a_true = all_same _
   same _ _ a_false = all_same _
@@ -287,22 +267,22 @@ module _ (sc : Scope) (variables : VariablesAreThose) (fields : FieldsAreThose) 
   same _ _ (a_target_field {s} {e} {f} {x} {d} h g) =
       let part = same e (pointer (named x)) h in
       at_same _ _ (λ r. displaced_same _ _ (4 * words_before sc.env.structs (fields_in sc.env.structs (target (type_at sc.env e))) f.number) _
-      (target_same (made sc e) (node_made (setting_of sc) (typed_of_expr sc.env e)) part sc r) (bytes_same x (target (type_at sc.env e)) f.number d (ap target (type_is sc.env e (pointer (named x)) h)) g))
+      (target_same (made sc e) (node_made (frame_setting sc) (typed_of_expr sc.env e)) part sc r) (bytes_same x (target (type_at sc.env e)) f.number d (ap target (type_is sc.env e (pointer (named x)) h)) g))
   same _ _ (an_element {s} {e} {i} {t} {n} p h g) =
       let part = same e (array t n) h in
       let place = same i _ g in
-      subst (λ (u : Option Ty). IsSameMade (at_place (λ r. element_address sc (element_words sc.env.structs u) (length_in u) (made sc i).literal ((made sc e).place r) (made sc i) r)) (node_made (setting_of sc) (typed_element (elements_in sc.env.structs u) (typed_of_expr sc.env e) (typed_of_expr sc.env i) (written i))))
+      subst (λ (u : Option Ty). IsSameMade (at_place (λ r. element_address sc (element_words sc.env.structs u) (length_in u) (made sc i).literal ((made sc e).place r) (made sc i) r)) (node_made (frame_setting sc) (typed_element (elements_in sc.env.structs u) (typed_of_expr sc.env e) (typed_of_expr sc.env i) (written_number i))))
       (sym (type_is sc.env e (array t n) h))
-      (subst (λ (o : Option ℕ). IsSameMade (at_place (λ r. element_address sc (words sc.env.structs t) n o ((made sc e).place r) (made sc i) r)) (node_made (setting_of sc) (typed_element (elements_in sc.env.structs (Some (array t n))) (typed_of_expr sc.env e) (typed_of_expr sc.env i) (written i))))
-      (sym (literal_written sc i)) (index_same t n (made sc e).place (typed_of_expr sc.env e) i part.place place (written i)))
+      (subst (λ (o : Option ℕ). IsSameMade (at_place (λ r. element_address sc (words sc.env.structs t) n o ((made sc e).place r) (made sc i) r)) (node_made (frame_setting sc) (typed_element (elements_in sc.env.structs (Some (array t n))) (typed_of_expr sc.env e) (typed_of_expr sc.env i) (written_number i))))
+      (sym (literal_written sc i)) (index_same t n (made sc e).place (typed_of_expr sc.env e) i part.place place (written_number i)))
   same _ _ (a_target {s} {e} {t} h) =
-      at_same _ _ (λ r. target_same (made sc e) (node_made (setting_of sc) (typed_of_expr sc.env e)) (same e (pointer t) h) sc r)
+      at_same _ _ (λ r. target_same (made sc e) (node_made (frame_setting sc) (typed_of_expr sc.env e)) (same e (pointer t) h) sc r)
   same _ _ (an_address {s} {e} {t} p away h) =
       let part = same e t h in only_same _ _ (λ d r. ap (λ (x : AddressingMode). access_code (λ b k. Addiu d b k) r x) (part.place r))
   same _ _ (a_negative {s} {e} h) =
-      subst (λ (o : Option ℕ). IsSameMade (negative_made o (made sc e)) (node_made (setting_of sc) (typed_negative (typed_of_expr sc.env e) (written e)))) (sym (literal_written sc e))
-      (negative_same e (typed_of_expr sc.env e) (same e _ h) (written e))
-  same _ _ (a_negation {s} {e} h) = only_same _ _ (λ d r. one_same (made sc e) (node_made (setting_of sc) (typed_of_expr sc.env e)) (same e _ h) (λ q. Xori d q 1 ∷ []) r)
+      subst (λ (o : Option ℕ). IsSameMade (negative_made o (made sc e)) (node_made (frame_setting sc) (typed_negative (typed_of_expr sc.env e) (written_number e)))) (sym (literal_written sc e))
+      (negative_same e (typed_of_expr sc.env e) (same e _ h) (written_number e))
+  same _ _ (a_negation {s} {e} h) = only_same _ _ (λ d r. one_same (made sc e) (node_made (frame_setting sc) (typed_of_expr sc.env e)) (same e _ h) (λ q. Xori d q 1 ∷ []) r)
   same _ _ (arithmetic {s} {o} {a} {b} k h g) = between o a b (same a _ h) (same b _ g)
   same _ _ (order {s} {o} {a} {b} k h g) = between o a b (same a _ h) (same b _ g)
   same _ _ (logic {s} {o} {a} {b} k h g) = between o a b (same a _ h) (same b _ g)
@@ -310,7 +290,7 @@ module _ (sc : Scope) (variables : VariablesAreThose) (fields : FieldsAreThose) 
   same _ _ (null_left {s} {r} {o} {b} k g) = between o (null r) b (all_same _) (same b _ g)
   same _ _ (null_right {s} {r} {o} {a} k h) = between o a (null r) (same a _ h) (all_same _)
 
-  given_same : (e : CExpr) (t : Ty) → IsNumberedGiven sc.env e t → IsSameMade (made sc e) (node_made (setting_of sc) (typed_of_expr sc.env e))
+  given_same : (e : CExpr) (t : Ty) → IsNumberedGiven sc.env e t → IsSameMade (made sc e) (node_made (frame_setting sc) (typed_of_expr sc.env e))
   given_same e t (a_value h) = same e t h
   given_same _ _ a_null = all_same _
 
@@ -318,7 +298,7 @@ module _ (sc : Scope) (variables : VariablesAreThose) (fields : FieldsAreThose) 
   plain_same : (m n : Made) → IsSameMade m n → (s : Bool) (far r : ℕ) → plain_test m s far r ≡ plain_test n s far r
   plain_same m n h s far r = one_same m n h (λ q. branch_code (not s) q 0 far ∷ []) r
 
-  variable_test : (k : Kind) (n : ℕ) (s : Bool) (far r : ℕ) → node_test (setting_of sc) (typed_variable sc.env k n) s far r ≡ plain_test (node_made (setting_of sc) (typed_variable sc.env k n)) s far r
+  variable_test : (k : Kind) (n : ℕ) (s : Bool) (far r : ℕ) → node_test (frame_setting sc) (typed_variable sc.env k n) s far r ≡ plain_test (node_made (frame_setting sc) (typed_variable sc.env k n)) s far r
   variable_test kind.Unresolved n s far r = refl
   variable_test kind.Struct n s far r = refl
   variable_test kind.Field n s far r = refl
@@ -328,16 +308,16 @@ module _ (sc : Scope) (variables : VariablesAreThose) (fields : FieldsAreThose) 
   variable_test kind.Primitive n s far r = refl
 
   element_tested : (x : Elements) (p i : TExpr) (o : Option ℕ) (s : Bool) (far r : ℕ)
-      → node_test (setting_of sc) (typed_element x p i o) s far r ≡ plain_test (node_made (setting_of sc) (typed_element x p i o)) s far r
+      → node_test (frame_setting sc) (typed_element x p i o) s far r ≡ plain_test (node_made (frame_setting sc) (typed_element x p i o)) s far r
   element_tested x p i None s far r = refl
   element_tested x p i (Some c) s far r = by (nat_lt c x.count)
     where
-      by : (b : Bool) → node_test (setting_of sc) (if b then tree.part p (c * x.bytes % 2 ^ 32) else tree.element p i x) s far r
-          ≡ plain_test (node_made (setting_of sc) (if b then tree.part p (c * x.bytes % 2 ^ 32) else tree.element p i x)) s far r
+      by : (b : Bool) → node_test (frame_setting sc) (if b then tree.part p (c * x.bytes % 2 ^ 32) else tree.element p i x) s far r
+          ≡ plain_test (node_made (frame_setting sc) (if b then tree.part p (c * x.bytes % 2 ^ 32) else tree.element p i x)) s far r
       by true = refl
       by false = refl
 
-  negative_tested : (x : TExpr) (o : Option ℕ) (s : Bool) (far r : ℕ) → node_test (setting_of sc) (typed_negative x o) s far r ≡ plain_test (node_made (setting_of sc) (typed_negative x o)) s far r
+  negative_tested : (x : TExpr) (o : Option ℕ) (s : Bool) (far r : ℕ) → node_test (frame_setting sc) (typed_negative x o) s far r ≡ plain_test (node_made (frame_setting sc) (typed_negative x o)) s far r
   negative_tested x None s far r = refl
   negative_tested x (Some n) s far r = refl
 
@@ -354,9 +334,9 @@ module _ (sc : Scope) (variables : VariablesAreThose) (fields : FieldsAreThose) 
       compare_same (immediate_test_of o n.known) o m n a b h g s far r ∙ ap (λ (k : Option ℕ). compare_test (immediate_test_of o k) o a b s far r) g.known
 
   -- a comparison, or the test of a value
-  compared : (o : BinaryOp) (x y : CExpr) → IsComparing o → IsSameMade (made sc x) (node_made (setting_of sc) (typed_of_expr sc.env x))
-      → IsSameMade (made sc y) (node_made (setting_of sc) (typed_of_expr sc.env y)) → (p : Span) (s : Bool) (far r : ℕ)
-      → test_code sc (binary p o x y) s far r ≡ node_test (setting_of sc) (typed_binary o (typed_of_expr sc.env x) (typed_of_expr sc.env y)) s far r
+  compared : (o : BinaryOp) (x y : CExpr) → IsComparing o → IsSameMade (made sc x) (node_made (frame_setting sc) (typed_of_expr sc.env x))
+      → IsSameMade (made sc y) (node_made (frame_setting sc) (typed_of_expr sc.env y)) → (p : Span) (s : Bool) (far r : ℕ)
+      → test_code sc (binary p o x y) s far r ≡ node_test (frame_setting sc) (typed_binary o (typed_of_expr sc.env x) (typed_of_expr sc.env y)) s far r
   compared Lt x y k h g p s far r = known_same Lt _ _ _ _ h g s far r
   compared Le x y k h g p s far r = known_same Le _ _ _ _ h g s far r
   compared Gt x y k h g p s far r = known_same Gt _ _ _ _ h g s far r
@@ -371,7 +351,7 @@ module _ (sc : Scope) (variables : VariablesAreThose) (fields : FieldsAreThose) 
   compared And x y k h g p s far r = absurd k
   compared Or x y k h g p s far r = absurd k
 
-  test_same : (e : CExpr) (t : Ty) → HasNumberedType sc.env e t → (s : Bool) (far r : ℕ) → test_code sc e s far r ≡ node_test (setting_of sc) (typed_of_expr sc.env e) s far r
+  test_same : (e : CExpr) (t : Ty) → HasNumberedType sc.env e t → (s : Bool) (far r : ℕ) → test_code sc e s far r ≡ node_test (frame_setting sc) (typed_of_expr sc.env e) s far r
   test_same _ _ (a_number {s = p} {n = n} h) s far r = plain_same _ _ (same (num p n) _ (a_number h)) s far r
   test_same _ _ a_true s far r = refl
   test_same _ _ a_false s far r = refl
@@ -379,11 +359,11 @@ module _ (sc : Scope) (variables : VariablesAreThose) (fields : FieldsAreThose) 
   test_same _ t (a_field {s = p} {e} {f} {x} {d} q h g) s far r = plain_same _ _ (same (field p e f) _ (a_field q h g)) s far r
   test_same _ t (a_target_field {s = p} {e} {f} {x} {d} h g) s far r = plain_same _ _ (same (arrow p e f) _ (a_target_field h g)) s far r
   test_same _ _ (an_element {s = p} {e} {i} {t} {n} q h g) s far r =
-      plain_same _ _ (same (index p e i) _ (an_element q h g)) s far r ∙ sym (element_tested (elements_in sc.env.structs (type_at sc.env e)) _ _ (written i) s far r)
+      plain_same _ _ (same (index p e i) _ (an_element q h g)) s far r ∙ sym (element_tested (elements_in sc.env.structs (type_at sc.env e)) _ _ (written_number i) s far r)
   test_same _ t (a_target {s = p} {e} h) s far r = plain_same _ _ (same (deref p e) t (a_target h)) s far r
   test_same _ _ (an_address {s = p} {e} {t} q away h) s far r = plain_same _ _ (same (address p e) _ (an_address q away h)) s far r
   test_same _ _ (a_negative {s = p} {e} h) s far r =
-      plain_same _ _ (same (unary p Negate e) _ (a_negative h)) s far r ∙ sym (negative_tested (typed_of_expr sc.env e) (written e) s far r)
+      plain_same _ _ (same (unary p Negate e) _ (a_negative h)) s far r ∙ sym (negative_tested (typed_of_expr sc.env e) (written_number e) s far r)
   test_same _ _ (a_negation {s = p} {e} h) s far r = test_same e _ h (not s) far r
   test_same _ _ (arithmetic {s = p} {o} {a} {b} k h g) s far r = compared o a b (arithmetic_compares o k) (same a _ h) (same b _ g) p s far r
   test_same _ _ (order {s = p} {o} {a} {b} k h g) s far r = compared o a b (order_compares o k) (same a _ h) (same b _ g) p s far r
@@ -393,7 +373,7 @@ module _ (sc : Scope) (variables : VariablesAreThose) (fields : FieldsAreThose) 
   test_same _ _ (null_left {s = p} {r = q} {o} {b} k g) s far r = compared o (null q) b (equality_compares o k) (all_same _) (same b _ g) p s far r
   test_same _ _ (null_right {s = p} {r = q} {o} {a} k h) s far r = compared o a (null q) (equality_compares o k) (same a _ h) (all_same _) p s far r
 
-  given_test_same : (e : CExpr) (t : Ty) → IsNumberedGiven sc.env e t → (s : Bool) (far r : ℕ) → test_code sc e s far r ≡ node_test (setting_of sc) (typed_of_expr sc.env e) s far r
+  given_test_same : (e : CExpr) (t : Ty) → IsNumberedGiven sc.env e t → (s : Bool) (far r : ℕ) → test_code sc e s far r ≡ node_test (frame_setting sc) (typed_of_expr sc.env e) s far r
   given_test_same e t (a_value h) s far r = test_same e t h s far r
   given_test_same _ _ a_null s far r = refl
 

@@ -294,9 +294,6 @@ module _ (w : World) (sc : Scope) (p : Bases) (live : ℕ → Bool) (s : C0State
   region_same heap = refl
   region_same locals = refl
 
-  location : Region → List ℕ → Location
-  location g path = record { region = g; path = path }
-
   at_same : (t : Ty) (l m : Location) → PointsTo sc.env.structs (layout sc p) l.region l.path t
       → PointsTo sc.env.structs (layout sc p) m.region m.path t
       → (same_region l.region m.region && bytes_eq l.path m.path) ≡ nat_eq (4 * location_word sc p l) (4 * location_word sc p m)

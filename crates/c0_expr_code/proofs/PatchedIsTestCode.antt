@@ -1,18 +1,24 @@
--- Open code, patched, is the code of the test.
+-- A typed test's open code, patched, is the test's code, and its branches stand in it.
 use Rattle.std.specs.Prelude.{map, slice_index, slice_set, All}
 use Rattle.std.proofs.lemmas.List.Elements.{All-nil, All-cons, All-same, All-append}
 use Rattle.std.proofs.Common.{◌≡◌, ℕ, suc, ◌+◌, ◌-◌, ◌*◌, ◌/◌, ◌%◌, ◌^◌, ◌<◌, ◌≤◌, Bool, true, false, not, cond, nat_eq, Option, Some, None, List, [], ◌∷◌, ◌++◌, length, refl, sym, ap, ap₂, ◌∙◌, arith, length-append}
 use Rattle.mips_table.specs.declared.inst.Inst.{Inst}
 use Rattle.mips_table.specs.declared.inst.Inst.TheVariants.{Slt, Slti}
 use Rattle.mips_table.specs.Encoding.{encoding}
-use Rattle.c0_tree.specs.declared.tree.UnaryOp.TheVariants.{Negate, Not}
 use Rattle.c0_tree.specs.declared.tree.BinaryOp.{BinaryOp}
 use Rattle.c0_tree.specs.declared.tree.BinaryOp.TheVariants.{Add, Sub, Mul, Div, Rem, Lt, Le, Gt, Ge, Eq, Ne, And, Or}
-use Rattle.c0_tree.specs.Tree.{CExpr, unary, binary}
-use Rattle.c0_expr_code.specs.Scope.{Scope}
-use Rattle.c0_expr_code.specs.Code.{low, is_near, Made, operand_code, operand_register, made}
-use Rattle.c0_expr_code.specs.Test.{branch_code, negative_branch, positive_branch, below_code, compare_code, ImmediateTest, immediate_test, immediate_test_of, compare_test, both_code, plain_test, test_code}
-use Rattle.c0_expr_code.specs.Jumps.{Unpatched, last_unpatched, behind_unpatched, joined_unpatched, both_unpatched, test_unpatched, aimed_word, patched}
+use Rattle.c0_typed.specs.declared.sorted.Order.{Order as Orders}
+use Rattle.c0_typed.specs.declared.sorted.Order.TheVariants.{Less, LessOrEqual, Greater, GreaterOrEqual}
+use Rattle.c0_typed.specs.declared.sorted.Plain.{Plain}
+use Rattle.c0_typed.specs.declared.sorted.Plain.TheVariants.{Sum, Difference, Product, Order, Equal, Different}
+use Rattle.c0_typed.specs.Sorted.{order_of, plain_of}
+use Rattle.c0_typed.specs.Tree.{TExpr, negation, plain, both, either}
+use Rattle.c0_expr_code.specs.Code.{low, is_near, Made, operand_code, operand_register}
+use Rattle.c0_expr_code.specs.FrameSetting.{FrameSetting}
+use Rattle.c0_expr_code.specs.Jumps.{Unpatched, last_unpatched, behind_unpatched, joined_unpatched, both_unpatched, aimed_word, patched}
+use Rattle.c0_expr_code.specs.Node.{node_made, node_test, order_test}
+use Rattle.c0_expr_code.specs.NodeJumps.{node_unpatched, NodePatchesAim, NodeJumpsAreWithin}
+use Rattle.c0_expr_code.specs.Test.{branch_code, negative_branch, positive_branch, below_code, compare_code, ImmediateTest, immediate_test, immediate_test_of, compare_test, both_code, plain_test}
 
 -- lists
 pub assoc : {A : Type 0} (xs ys zs : List A) → (xs ++ ys) ++ zs ≡ xs ++ (ys ++ zs)
@@ -240,36 +246,38 @@ over one y g h =
       law = λ far to before after short small aim. b.law far to before after short small aim ∙ ap (λ n. before ++ (map encoding (one (n % 2 ^ 16) ++ g far) ++ after)) (sym (h.same far));
     }
 
-module _ (sc : Scope) where
-  boths : (decides s : Bool) (a b : CExpr) (r : ℕ) → ((s : Bool) → AimsAt (test_unpatched sc a s r) (λ far. test_code sc a s far r)) → ((s : Bool) → AimsAt (test_unpatched sc b s r) (λ far. test_code sc b s far r))
-      → AimsAt (both_unpatched decides s (test_code sc a) (test_unpatched sc a) (test_unpatched sc b) r) (λ far. both_code decides s (test_code sc a) (test_code sc b) far r)
-  boths true true a b r h k = joins (test_unpatched sc a true r) (test_unpatched sc b true r) (λ far. test_code sc a true far r) (λ far. test_code sc b true far r) (h true) (k true)
-  boths true false a b r h k = over (λ n. test_code sc a true n r) (test_unpatched sc b false r) (λ far. test_code sc b false far r) (k false)
-  boths false true a b r h k = over (λ n. test_code sc a false n r) (test_unpatched sc b true r) (λ far. test_code sc b true far r) (k true)
-  boths false false a b r h k = joins (test_unpatched sc a false r) (test_unpatched sc b false r) (λ far. test_code sc a false far r) (λ far. test_code sc b false far r) (h false) (k false)
+pub compared_order : (o : Orders) → IsCompared (order_of o)
+compared_order Less = lt
+compared_order LessOrEqual = le
+compared_order Greater = gt
+compared_order GreaterOrEqual = ge
 
-  pub aims : (e : CExpr) (s : Bool) (r : ℕ) → AimsAt (test_unpatched sc e s r) (λ far. test_code sc e s far r)
-  aims (unary p Not e) s r = aims e (not s) r
-  aims (unary p Negate e) s r = plains (made sc (unary p Negate e)) s r
-  aims (binary p And a b) s r = boths false s a b r (λ s. aims a s r) (λ s. aims b s r)
-  aims (binary p Or a b) s r = boths true s a b r (λ s. aims a s r) (λ s. aims b s r)
-  aims (binary p Lt a b) s r = compares (immediate_test_of Lt (made sc b).known) Lt (made sc a) (made sc b) s r (test_of Lt (made sc b).known) lt
-  aims (binary p Le a b) s r = compares (immediate_test_of Le (made sc b).known) Le (made sc a) (made sc b) s r (test_of Le (made sc b).known) le
-  aims (binary p Gt a b) s r = compares (immediate_test_of Gt (made sc b).known) Gt (made sc a) (made sc b) s r (test_of Gt (made sc b).known) gt
-  aims (binary p Ge a b) s r = compares (immediate_test_of Ge (made sc b).known) Ge (made sc a) (made sc b) s r (test_of Ge (made sc b).known) ge
-  aims (binary p Eq a b) s r = compares None Eq (made sc a) (made sc b) s r tt eq
-  aims (binary p Ne a b) s r = compares None Ne (made sc a) (made sc b) s r tt ne
-  aims (binary p Add a b) s r = plains (made sc (binary p Add a b)) s r
-  aims (binary p Sub a b) s r = plains (made sc (binary p Sub a b)) s r
-  aims (binary p Mul a b) s r = plains (made sc (binary p Mul a b)) s r
-  aims (binary p Div a b) s r = plains (made sc (binary p Div a b)) s r
-  aims (binary p Rem a b) s r = plains (made sc (binary p Rem a b)) s r
-  aims e s r = plains (made sc e) s r
+-- an operator on two registers
+orders : (o : Plain) (m a b : Made) (s : Bool) (r : ℕ) → AimsAt (last_unpatched (order_test o m a b s 0 r)) (λ far. order_test o m a b s far r)
+orders Sum m a b s r = plains m s r
+orders Difference m a b s r = plains m s r
+orders Product m a b s r = plains m s r
+orders (Order o) m a b s r = compares (immediate_test_of (order_of o) b.known) (order_of o) a b s r (test_of (order_of o) b.known) (compared_order o)
+orders Equal m a b s r = compares None (plain_of Equal) a b s r tt eq
+orders Different m a b s r = compares None (plain_of Different) a b s r tt ne
 
-  pub patches : (e : CExpr) (s : Bool) (r far to : ℕ) (before after : List ℕ) → far < 2 ^ 16 → length before + length (test_unpatched sc e s r).code < 2 ^ 64
-      → (length before + length (test_unpatched sc e s r).code + far) % 2 ^ 16 ≡ to % 2 ^ 16
-      → patched to (map (λ j. length before + j) (test_unpatched sc e s r).jumps) (before ++ (map encoding (test_unpatched sc e s r).code ++ after)) ≡ before ++ (map encoding (test_code sc e s far r) ++ after)
-  patches e s r far to before after short small aim = (aims e s r).law far to before after short small aim
+module _ (st : FrameSetting) where
+  boths : (decides s : Bool) (a b : TExpr) (r : ℕ) → ((s : Bool) → AimsAt (node_unpatched st a s r) (λ far. node_test st a s far r)) → ((s : Bool) → AimsAt (node_unpatched st b s r) (λ far. node_test st b s far r))
+      → AimsAt (both_unpatched decides s (node_test st a) (node_unpatched st a) (node_unpatched st b) r) (λ far. both_code decides s (node_test st a) (node_test st b) far r)
+  boths true true a b r h k = joins (node_unpatched st a true r) (node_unpatched st b true r) (λ far. node_test st a true far r) (λ far. node_test st b true far r) (h true) (k true)
+  boths true false a b r h k = over (λ n. node_test st a true n r) (node_unpatched st b false r) (λ far. node_test st b false far r) (k false)
+  boths false true a b r h k = over (λ n. node_test st a false n r) (node_unpatched st b true r) (λ far. node_test st b true far r) (k true)
+  boths false false a b r h k = joins (node_unpatched st a false r) (node_unpatched st b false r) (λ far. node_test st a false far r) (λ far. node_test st b false far r) (h false) (k false)
 
-  pub within : (e : CExpr) (s : Bool) (r at n : ℕ) → at + length (test_unpatched sc e s r).code ≤ n → All (λ j. j < n) (map (λ j. at + j) (test_unpatched sc e s r).jumps)
-  within e s r at n h = (aims e s r).within at n h
+  pub aims : (e : TExpr) (s : Bool) (r : ℕ) → AimsAt (node_unpatched st e s r) (λ far. node_test st e s far r)
+  aims (negation e) s r = aims e (not s) r
+  aims (plain o a b) s r = orders o (node_made st (plain o a b)) (node_made st a) (node_made st b) s r
+  aims (both a b) s r = boths false s a b r (λ s. aims a s r) (λ s. aims b s r)
+  aims (either a b) s r = boths true s a b r (λ s. aims a s r) (λ s. aims b s r)
+  aims e s r = plains (node_made st e) s r
+
+pub node_patches : NodePatchesAim
+node_patches st e s r far to before after short small aim = (aims st e s r).law far to before after short small aim
+
+pub node_within : NodeJumpsAreWithin
+node_within st e s r at n h = (aims st e s r).within at n h

@@ -1,44 +1,35 @@
--- Open code is put together: a last branch, tests side by side, and a test that goes over another.
+-- Open code of typed tests is put together: a last branch, tests side by side, and a test that goes over another.
 use Rattle.std.specs.Prelude.{map, All, OnOk, Result, Ok, Err}
-use Rattle.std.proofs.Common.{◌≡◌, ℕ, ◌+◌, ◌-◌, ◌%◌, ◌^◌, ◌<◌, Bool, not, None, List, [], ◌∷◌, ◌++◌, length, sym, ap, ap₂, ◌∙◌, arith, length-append, subst}
+use Rattle.std.proofs.Common.{◌≡◌, ℕ, ◌+◌, ◌-◌, ◌%◌, ◌^◌, ◌<◌, Bool, None, List, [], ◌∷◌, ◌++◌, length, sym, ap, ap₂, ◌∙◌, arith, length-append, subst}
 use Rattle.mips_table.specs.declared.inst.Inst.{Inst}
 use Rattle.mips_table.specs.Encoding.{encoding}
 use Rattle.c0_tree.specs.declared.tree.BinaryOp.TheVariants.{Eq}
 use Rattle.c0_typed.specs.declared.sorted.Order.{Order}
-use Rattle.c0_typed.specs.declared.sorted.Order.TheVariants.{Less, LessOrEqual, Greater, GreaterOrEqual}
-use Rattle.c0_expr_code.specs.Sorted.{order_of}
-use Rattle.c0_tree.specs.Tree.{CExpr}
-use Rattle.c0_expr_code.specs.Scope.{Scope}
-use Rattle.c0_expr_code.specs.Code.{made}
-use Rattle.c0_expr_code.specs.Test.{immediate_test_of, compare_test, plain_test, test_code}
-use Rattle.c0_expr_code.specs.Jumps.{Unpatched, last_unpatched, joined_unpatched, test_unpatched, patched}
-use Rattle.c0_expr_code.specs.EmitTest.{StandsUnpatched, bool_code, order_code, registers_code, over_unpatched}
-use Rattle.c0_expr_code.proofs.PatchedIsTestCode.{assoc, map_append, map_length, shifted, EndsIn, aims, patches, within, plain_ends, IsCompared, lt, le, gt, ge, eq, compared, test_of}
+use Rattle.c0_typed.specs.Sorted.{order_of}
+use Rattle.c0_expr_code.specs.Code.{Made}
+use Rattle.c0_expr_code.specs.EmitTest.{StandsUnpatched}
+use Rattle.c0_expr_code.specs.Jumps.{Unpatched, behind_unpatched, last_unpatched, joined_unpatched, patched}
+use Rattle.c0_expr_code.specs.Test.{compare_test, immediate_test_of, plain_test}
+use Rattle.c0_expr_code.proofs.PatchedIsTestCode.{AimsAt, EndsIn, assoc, compared, compared_order, eq, map_append, map_length, plain_ends, shifted, test_of}
 
 on_ok : {A E : Type 0} (r : Result A E) (P Q : Type 0) → (P → Q) → OnOk r P → OnOk r Q
 on_ok (Ok a) P Q f h = f h
 on_ok (Err a) P Q f h = h
 
 -- code that ends in a branch is some
-pub some : (f : ℕ → List Inst) → EndsIn f → 0 < length (f 0)
+some : (f : ℕ → List Inst) → EndsIn f → 0 < length (f 0)
 some f h = let e = ap length (h.is 0) ∙ length-append h.before (h.branch 0 ∷ []) in omega (arith, e)
 
-pub some_bool : (sc : Scope) (e : CExpr) (s : Bool) (r : ℕ) → 0 < length (bool_code sc e s r)
-some_bool sc e s r = some (λ far. plain_test (made sc e) s far r) (plain_ends (made sc e) s r)
+pub some_plain : (m : Made) (s : Bool) (r : ℕ) → 0 < length (plain_test m s 0 r)
+some_plain m s r = some (λ far. plain_test m s far r) (plain_ends m s r)
 
-pub compared_order : (o : Order) → IsCompared (order_of o)
-compared_order Less = lt
-compared_order LessOrEqual = le
-compared_order Greater = gt
-compared_order GreaterOrEqual = ge
+pub some_order : (o : Order) (a b : Made) (s : Bool) (r : ℕ) → 0 < length (compare_test (immediate_test_of (order_of o) b.known) (order_of o) a b s 0 r)
+some_order o a b s r =
+    some (λ far. compare_test (immediate_test_of (order_of o) b.known) (order_of o) a b s far r)
+    (compared (immediate_test_of (order_of o) b.known) (order_of o) a b s r (test_of (order_of o) b.known) (compared_order o))
 
-pub some_order : (sc : Scope) (o : Order) (a b : CExpr) (s : Bool) (r : ℕ) → 0 < length (order_code sc (order_of o) a b s r)
-some_order sc o a b s r =
-    some (λ far. compare_test (immediate_test_of (order_of o) (made sc b).known) (order_of o) (made sc a) (made sc b) s far r)
-    (compared (immediate_test_of (order_of o) (made sc b).known) (order_of o) (made sc a) (made sc b) s r (test_of (order_of o) (made sc b).known) (compared_order o))
-
-pub some_equality : (sc : Scope) (a b : CExpr) (s : Bool) (r : ℕ) → 0 < length (registers_code sc Eq a b s r)
-some_equality sc a b s r = some (λ far. compare_test None Eq (made sc a) (made sc b) s far r) (compared None Eq (made sc a) (made sc b) s r tt eq)
+pub some_equality : (a b : Made) (s : Bool) (r : ℕ) → 0 < length (compare_test None Eq a b s 0 r)
+some_equality a b s r = some (λ far. compare_test None Eq a b s far r) (compared None Eq a b s r tt eq)
 
 -- so many words stand then
 pub count : (old new : List ℕ) (is : List Inst) → new ≡ old ++ map encoding is → length new ≡ length old + length is
@@ -70,33 +61,32 @@ pub then : {A E : Type 0} (r : Result A E) (old mid new marked marks all : List 
     → OnOk r (StandsUnpatched old new marked all (joined_unpatched x y))
 then r old mid new marked marks all x y h = on_ok r _ _ (λ k. joined old mid new marked marks all x y h k)
 
-module _ (sc : Scope) (a b : CExpr) (s : Bool) (r : ℕ) (old mid new none over marked marks seen : List ℕ) (at_first : none ≡ [])
-    (first : StandsUnpatched old mid none over (test_unpatched sc a (not s) r)) (second : StandsUnpatched mid new marked marks (test_unpatched sc b s r)) (same : seen ≡ over) where
+module _ (x y : Unpatched) (f : ℕ → List Inst) (aims : AimsAt x f) (old mid new none over marked marks seen : List ℕ) (at_first : none ≡ [])
+    (first : StandsUnpatched old mid none over x) (second : StandsUnpatched mid new marked marks y) (same : seen ≡ over) where
   -- the first test's branches
-  aside : seen ≡ map (λ j. length old + j) (test_unpatched sc a (not s) r).jumps
-  aside = same ∙ first.places ∙ ap (λ l. l ++ map (λ j. length old + j) (test_unpatched sc a (not s) r).jumps) at_first
+  aside : seen ≡ map (λ j. length old + j) x.jumps
+  aside = same ∙ first.places ∙ ap (λ l. l ++ map (λ j. length old + j) x.jumps) at_first
 
   -- stand in the code
   pub there : All (λ j. j < length new) seen
   there =
-      let n = count old mid (test_unpatched sc a (not s) r).code first.words in
-      let m = count mid new (test_unpatched sc b s r).code second.words in
-      subst (All (λ j. j < length new)) (sym aside) (within sc a (not s) r (length old) (length new) (omega (arith, n, m)))
+      let n = count old mid x.code first.words in
+      let m = count mid new y.code second.words in
+      subst (All (λ j. j < length new)) (sym aside) (aims.within (length old) (length new) (omega (arith, n, m)))
 
   -- and, patched, they go over the second test
-  pub over_it : (final : List ℕ) (end : ℕ) → end ≡ length new → end < 2 ^ 64 → final ≡ patched end seen new → StandsUnpatched old final marked marks (over_unpatched sc a b s r)
+  pub over_it : (final : List ℕ) (end : ℕ) → end ≡ length new → end < 2 ^ 64 → final ≡ patched end seen new
+      → StandsUnpatched old final marked marks (behind_unpatched (f (length y.code % 2 ^ 16)) y)
   over_it final end e short p =
-      let x = test_unpatched sc a (not s) r in
-      let y = test_unpatched sc b s r in
       let far = length y.code % 2 ^ 16 in
       let n = count old mid x.code first.words in
       let m = count mid new y.code second.words in
       let whole : new ≡ old ++ (map encoding x.code ++ map encoding y.code) = second.words ∙ ap (λ l. l ++ map encoding y.code) first.words ∙ assoc old (map encoding x.code) (map encoding y.code) in
-      let aim = patches sc a (not s) r far end old (map encoding y.code) (omega arith) (omega (arith, n, m, e, short)) (omega (arith, n, m, e)) in
-      let many = (aims sc a (not s) r).same far in
+      let aim = aims.law far end old (map encoding y.code) (omega arith) (omega (arith, n, m, e, short)) (omega (arith, n, m, e)) in
+      let many = aims.same far in
       record {
-        words = p ∙ ap₂ (λ js ws. patched end js ws) aside whole ∙ aim ∙ ap (λ l. old ++ l) (sym (map_append encoding (test_code sc a (not s) far r) y.code));
+        words = p ∙ ap₂ (λ js ws. patched end js ws) aside whole ∙ aim ∙ ap (λ l. old ++ l) (sym (map_append encoding (f far) y.code));
         places =
-            let k : length mid ≡ length old + length (test_code sc a (not s) far r) = n ∙ ap (λ i. length old + i) (sym many) in
-            second.places ∙ ap (λ l. marked ++ l) (ap (λ i. map (λ j. i + j) y.jumps) k ∙ sym (shifted (length old) (length (test_code sc a (not s) far r)) y.jumps));
+            let k : length mid ≡ length old + length (f far) = n ∙ ap (λ i. length old + i) (sym many) in
+            second.places ∙ ap (λ l. marked ++ l) (ap (λ i. map (λ j. i + j) y.jumps) k ∙ sym (shifted (length old) (length (f far)) y.jumps));
       }

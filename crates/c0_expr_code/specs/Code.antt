@@ -21,6 +21,7 @@ use Rattle.c0_meaning.specs.Sizes.{words_before}
 use Rattle.c0_meaning.specs.Operators.{NullUse, Bounds, DivZero}
 use Rattle.c0_meaning.specs.TypeAt.{type_at}
 use Rattle.c0_meaning.specs.TypedState.{types_of}
+use Rattle.c0_expr_code.specs.FrameSetting.{frame_back, frame_setting}
 use Rattle.c0_expr_code.specs.Scope.{Scope}
 
 -- the types of the fields, where a type is a struct
@@ -117,14 +118,10 @@ only_value code = record { value = code; place = no_address; stands = None; lite
 abbrev pub global_address : Scope → ℕ → AddressingMode
 global_address sc n = record { code = []; base = GLOBALS; displacement = 4 * words_before sc.env.structs (types_of sc.env.globals) n % 2 ^ 32 }
 
--- the bytes from the frame's end back to its beginning, modulo 2 ^ 32
-abbrev pub frame_back : Scope → ℕ
-frame_back sc = 2 ^ 32 - 4 * sc.frame % 2 ^ 32
-
 -- the variable of a number in the frame, which begins with three words of its own
 abbrev pub local_address : Scope → ℕ → AddressingMode
 local_address sc n =
-    record { code = []; base = FRAME_END; displacement = (frame_back sc + (12 + 4 * words_before sc.env.structs (types_of sc.env.locals) n)) % 2 ^ 32 }
+    record { code = []; base = FRAME_END; displacement = (frame_back (frame_setting sc) + (12 + 4 * words_before sc.env.structs (types_of sc.env.locals) n)) % 2 ^ 32 }
 
 -- what stands in a register
 abbrev pub register_made : ℕ → Made

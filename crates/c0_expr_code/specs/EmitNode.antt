@@ -9,7 +9,7 @@ use Rattle.c0_expr_code.specs.declared.setting.CodeSetting.{CodeSetting}
 use Rattle.c0_expr_code.specs.Code.{AddressingMode, Immediate, Made, immediate_of, is_never_zero, logic_code, one_code, operator_code, operator_made, two_code}
 use Rattle.c0_expr_code.specs.Emit.{code_with, held_code, logic_skip, taken_inst}
 use Rattle.c0_expr_code.specs.Node.{divisor_test, element_place}
-use Rattle.c0_expr_code.specs.Setting.{Setting}
+use Rattle.c0_expr_code.specs.FrameSetting.{FrameSetting}
 use Rattle.c0_expr_code.specs.SettingIn.{node_in, setting_in}
 
 -- a parameter or local as value
@@ -33,7 +33,7 @@ abbrev pub plain_nodes : CodeSetting → BinaryOp → (left right : TypedExpr) �
 plain_nodes s o a b = operator_made (immediate_of o (node_in s b).known) o (node_in s a) (node_in s b)
 
 -- the quotient, or else the remainder, of two registers, of which the right one is tested unless it is sure
-abbrev pub quotient_code : Setting → (is_quotient is_sure : Bool) → (d q t : ℕ) → List Inst
+abbrev pub quotient_code : FrameSetting → (is_quotient is_sure : Bool) → (d q t : ℕ) → List Inst
 quotient_code st b sure d q t = divisor_test st sure t ++ (Div q t ∷ taken_inst b d ∷ [])
 
 -- that of two expressions

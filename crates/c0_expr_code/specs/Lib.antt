@@ -1,7 +1,6 @@
 pub mod Scope
 pub mod Code
 pub mod Test
-pub mod Sorted
 pub mod Bases
 pub mod Relation
 pub mod Laws
@@ -10,15 +9,12 @@ pub mod Rows
 pub mod Emit
 pub mod Reads
 pub mod Known
-pub mod Layout
 pub mod Exits
-pub mod Scene
 pub mod Patch
 pub mod EmitTest
-pub mod Setting
+pub mod FrameSetting
 pub mod Node
 pub mod SettingIn
-pub mod TypedKnown
 pub mod EmitNode
 pub mod NodeJumps
 pub mod EmitNodeTest

@@ -15,7 +15,7 @@ use Rattle.c0_typed.specs.Sorted.{plain_of}
 use Rattle.c0_typed.specs.Tree.{TExpr, global, local, part, element, target, constant, address, negative, negation, plain, quotient, remainder, both, either}
 use Rattle.c0_typed.specs.Typed.{typed_of_expr}
 use Rattle.c0_expr_code.specs.Scope.{Scope}
-use Rattle.c0_expr_code.specs.Setting.{Setting, setting_of}
+use Rattle.c0_expr_code.specs.FrameSetting.{FrameSetting, frame_back, frame_setting}
 use Rattle.c0_expr_code.specs.Code as code
 use Rattle.c0_expr_code.specs.Code.{AddressingMode, Made, access_code, at_place, bound_code, displaced, immediate_of, is_never_zero, logic_code, made, one_code, only_value, operand_code, operand_register, operator_made, register_made, register_of_variable, shift_within, sum_made, two_code, POWERS}
 use Rattle.c0_expr_code.specs.Emit.{scaled_at}
@@ -26,25 +26,25 @@ abbrev pub global_place : ℕ → AddressingMode
 global_place k = record { code = []; base = GLOBALS; displacement = k }
 
 -- the variable so many words behind the first one in the frame, which begins with three words of its own; bytes are counted from the frame's end
-abbrev pub local_place : Setting → ℕ → AddressingMode
-local_place st w = record { code = []; base = FRAME_END; displacement = (2 ^ 32 - 4 * st.frame % 2 ^ 32 + (12 + 4 * w)) % 2 ^ 32 }
+abbrev pub local_place : FrameSetting → ℕ → AddressingMode
+local_place st w = record { code = []; base = FRAME_END; displacement = (frame_back st + (12 + 4 * w)) % 2 ^ 32 }
 
 -- a parameter or local
-abbrev pub local_node : Setting → (number words : ℕ) → Made
+abbrev pub local_node : FrameSetting → (number words : ℕ) → Made
 local_node st n w = if st.in_registers then register_made (register_of_variable n) else at_place (λ r. local_place st w)
 
 -- what a pointer points to
-abbrev pub target_place : Setting → Made → ℕ → AddressingMode
+abbrev pub target_place : FrameSetting → Made → ℕ → AddressingMode
 target_place st m r =
     record { code = operand_code m r ++ (Bne (operand_register m r) 0 1 ∷ J (st.exit NullUse) ∷ []); base = operand_register m r; displacement = 0 }
 
 -- the test of an index in q, and then the address in r of its element behind b
-abbrev pub element_test : Setting → Elements → (q b r : ℕ) → List Inst
+abbrev pub element_test : FrameSetting → Elements → (q b r : ℕ) → List Inst
 element_test st x q b r =
     bound_code q x.count ++ (Bne SCRATCH 0 1 ∷ J (st.exit Bounds) ∷ (scaled_at (shift_within POWERS x.words) x.bytes q ++ (Addu r b SCRATCH ∷ [])))
 
 -- an element of a place
-abbrev pub element_place : Setting → Elements → AddressingMode → Made → ℕ → AddressingMode
+abbrev pub element_place : FrameSetting → Elements → AddressingMode → Made → ℕ → AddressingMode
 element_place st x a m r =
     record { code = a.code ++ (operand_code m (r + 1) ++ element_test st x (operand_register m (r + 1)) a.base r); base = r; displacement = a.displacement }
 
@@ -58,16 +58,16 @@ plain_node Equal a b = operator_made (immediate_of (plain_of Equal) b.known) (pl
 plain_node Different a b = operator_made (immediate_of (plain_of Different) b.known) (plain_of Different) a b
 
 -- the test of a divisor, unless it is sure
-abbrev pub divisor_test : Setting → Bool → ℕ → List Inst
+abbrev pub divisor_test : FrameSetting → Bool → ℕ → List Inst
 divisor_test st true t = []
 divisor_test st false t = Bne t 0 1 ∷ J (st.exit DivZero) ∷ []
 
 -- a division, and what is taken of it
-abbrev pub division_node : Setting → (ℕ → Inst) → (a b : Made) → Made
+abbrev pub division_node : FrameSetting → (ℕ → Inst) → (a b : Made) → Made
 division_node st takes a b = only_value (λ d r. two_code (λ q t. divisor_test st (is_never_zero b.known) t ++ (Divide q t ∷ takes d ∷ [])) a b r)
 
 -- every node
-abbrev pub node_made : Setting → TExpr → Made
+abbrev pub node_made : FrameSetting → TExpr → Made
 node_made st (global k) = at_place (λ r. global_place k)
 node_made st (local n w) = local_node st n w
 node_made st (part p k) = at_place (λ r. displaced k ((node_made st p).place r))
@@ -93,7 +93,7 @@ order_test Equal m a b s far r = compare_test None (plain_of Equal) a b s far r
 order_test Different m a b s far r = compare_test None (plain_of Different) a b s far r
 
 -- every test
-abbrev pub node_test : Setting → TExpr → Testing
+abbrev pub node_test : FrameSetting → TExpr → Testing
 node_test st (negation e) s far r = node_test st e (not s) far r
 node_test st (plain o a b) s far r = order_test o (node_made st (plain o a b)) (node_made st a) (node_made st b) s far r
 node_test st (both a b) s far r = both_code false s (node_test st a) (node_test st b) far r
@@ -109,6 +109,6 @@ pub record IsSameMade (m n : Made) : Type 0 where
 
 -- A law: the code of the typed tree of a typed expression is that of the expression, and so is that of its test.
 pub record NodesAreMade : Type 0 where
-  pub nodes : (sc : Scope) (e : CExpr) (t : Ty) → IsNumberedGiven sc.env e t → IsSameMade (made sc e) (node_made (setting_of sc) (typed_of_expr sc.env e))
+  pub nodes : (sc : Scope) (e : CExpr) (t : Ty) → IsNumberedGiven sc.env e t → IsSameMade (made sc e) (node_made (frame_setting sc) (typed_of_expr sc.env e))
   pub tests : (sc : Scope) (e : CExpr) (t : Ty) → IsNumberedGiven sc.env e t
-      → (s : Bool) (far r : ℕ) → test_code sc e s far r ≡ node_test (setting_of sc) (typed_of_expr sc.env e) s far r
+      → (s : Bool) (far r : ℕ) → test_code sc e s far r ≡ node_test (frame_setting sc) (typed_of_expr sc.env e) s far r

@@ -7,10 +7,10 @@ use Rattle.c0_expr_code.specs.Code.{Made}
 use Rattle.c0_expr_code.specs.Exits.{exits_of}
 use Rattle.c0_expr_code.specs.Node.{node_made}
 use Rattle.c0_expr_code.specs.Scope.{exit_number}
-use Rattle.c0_expr_code.specs.Setting.{Setting}
+use Rattle.c0_expr_code.specs.FrameSetting.{FrameSetting}
 
 -- the setting
-abbrev pub setting_in : CodeSetting → Setting
+abbrev pub setting_in : CodeSetting → FrameSetting
 setting_in s = record { in_registers = s.in_registers; frame = s.frame; exit = λ fault. slice_index (exits_of s.exits) (exit_number fault) / 4 }
 
 -- the code, place and constant of a typed expression

@@ -1,31 +1,22 @@
 // Elements of arrays.
 
-ghost use Rattle.std.specs.Prelude.{◌≡◌, ◌*◌, ◌/◌, ◌%◌, ◌^◌, ◌<◌, ◌∷◌, [], IfSome};
+ghost use Rattle.std.specs.Prelude.{◌≡◌, ◌/◌, ◌^◌, ◌<◌, ◌∷◌, [], IfSome};
 ghost use Rattle.mips_table.specs.declared.inst.Inst.TheVariants.{Bne, J};
-ghost use Rattle.c0_expr_code.specs.Scene.{scope_in};
 ghost use Rattle.c0_expr_code.specs.Code.{bound_code, shift_within, POWERS};
-ghost use Rattle.c0_expr_code.specs.Emit.{Appends, element_by, scaled_by};
+ghost use Rattle.c0_expr_code.specs.Emit.{Appends, scaled_at};
+ghost use Rattle.c0_expr_code.specs.Node.{element_test};
+ghost use Rattle.c0_expr_code.specs.SettingIn.{setting_in};
 
 use crate::constant::emit_constant;
-use crate::scene::Scene;
+use crate::setting::CodeSetting;
 use crate::word::emit;
+use c0_typed::Elements;
 use masm::registers::SCRATCH;
 use mips_table::Inst;
 use std::alloc::AllocError;
 
-/// An array's elements.
-#[derive(Clone, Copy, Debug)]
-pub struct Elements {
-    /// How many there are.
-    pub count: u32,
-    /// The shift that multiplies by the bytes of one, where there is one.
-    pub shift: Option<u32>,
-    /// The bytes of one, modulo 2^32.
-    pub bytes: u32,
-}
-
-/// The shift that multiplies by the bytes of so many words, where the words are a power of two up to 1,024.
-pub fn shift_of(words: u32) -> Option<u32>
+// The shift that multiplies by the bytes of so many words, where the words are a power of two up to 1,024.
+fn shift_of(words: u32) -> Option<u32>
     ensures value { result ≡ shift_within POWERS words }
     ensures small { IfSome result (λ by. by < 32) }
 {
@@ -45,8 +36,8 @@ pub fn shift_of(words: u32) -> Option<u32>
     }
 }
 
-/// Appends whether an index is below a length, into the scratch register.
-pub fn emit_bound(code: &mut Vec<u32>, index: u32, count: u32) -> Result<(), AllocError>
+// Appends whether an index is below a length, into the scratch register.
+fn emit_bound(code: &mut Vec<u32>, index: u32, count: u32) -> Result<(), AllocError>
     requires { index < 32 }
     ensures { Appends code.old.items code.new.items (bound_code index count) result }
 {
@@ -71,13 +62,12 @@ pub fn emit_bound(code: &mut Vec<u32>, index: u32, count: u32) -> Result<(), All
     )
 }
 
-/// Appends the bytes before the element of an index, into the scratch register.
-pub fn emit_scaled(code: &mut Vec<u32>, index: u32, elements: Elements) -> Result<(), AllocError>
-    requires index { index < 32 }
-    requires shift { IfSome elements.shift (λ by. by < 32) }
-    ensures { Appends code.old.items code.new.items (scaled_by elements index) result }
+// Appends a word in a register times the bytes of an element, into the scratch register.
+fn emit_scaled(code: &mut Vec<u32>, index: u32, elements: Elements) -> Result<(), AllocError>
+    requires { index < 32 }
+    ensures { Appends code.old.items code.new.items (scaled_at (shift_within POWERS elements.words) elements.bytes index) result }
 {
-    if let Some(by) = elements.shift {
+    if let Some(by) = shift_of(elements.words) {
         return emit(
             code,
             Inst::Sll {
@@ -118,7 +108,7 @@ pub fn emit_guard(code: &mut Vec<u32>, register: u32, exit: u32) -> Result<(), A
 /// Appends the test of an index, and the sum of a base and the bytes before its element, into a register.
 pub fn emit_element(
     code: &mut Vec<u32>,
-    scene: &Scene<'_>,
+    setting: &CodeSetting,
     target: u32,
     base: u32,
     index: u32,
@@ -127,11 +117,10 @@ pub fn emit_element(
     requires target { target < 32 }
     requires base { base < 32 }
     requires index { index < 32 }
-    requires shift { IfSome elements.shift (λ by. by < 32) }
-    ensures { Appends code.old.items code.new.items (element_by (scope_in scene.now) elements index base target) result }
+    ensures { Appends code.old.items code.new.items (element_test (setting_in setting.now) elements index base target) result }
 {
     emit_bound(code, index, elements.count)?;
-    emit_guard(code, SCRATCH, scene.exits.bounds)?;
+    emit_guard(code, SCRATCH, setting.exits.bounds)?;
     emit_scaled(code, index, elements)?;
     emit(
         code,

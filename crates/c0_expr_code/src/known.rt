@@ -1,161 +1,126 @@
-// What is known of an expression by its outermost part.
+// What is known of a typed expression by its outermost part, and the places of locals.
 
-ghost use Rattle.std.specs.Prelude.{◌≡◌, ◌<◌, IfSome};
-ghost use Rattle.c0_tree.specs.View.{expr_view};
-ghost use Rattle.c0_expr_code.specs.Code as code;
-ghost use Rattle.c0_expr_code.specs.Code.{made};
-ghost use Rattle.c0_expr_code.specs.Scope.{Scope};
-ghost use Rattle.c0_expr_code.specs.Emit.{below_of};
-ghost use Rattle.c0_expr_code.specs.Scene.{made_in};
-ghost use Rattle.c0_expr_code.specs.Known as spec;
+ghost use Rattle.std.specs.Prelude.{◌≡◌, ℕ, ◌+◌, ◌-◌, ◌*◌, ◌%◌, ◌^◌, ◌<◌, Some, IfSome};
+ghost use Rattle.c0_typed.specs.View.{typed_expr_view};
+ghost use Rattle.c0_expr_code.specs.Code.{register_of_variable};
+ghost use Rattle.c0_expr_code.specs.Emit.{IsSameAddress};
+ghost use Rattle.c0_expr_code.specs.FrameSetting.{FrameSetting};
+ghost use Rattle.c0_expr_code.specs.Known.{local_register, stands_of, written_word, zero_register};
+ghost use Rattle.c0_expr_code.specs.Node.{local_node, node_made};
+ghost use Rattle.c0_expr_code.specs.SettingIn.{node_in, setting_in};
 
-use crate::scene::Scene;
-use c0_tree::{Expr, Kind, UnaryOp};
-use masm::registers::ARGUMENTS;
+use crate::address::Address;
+use crate::setting::CodeSetting;
+use crate::word::wrapped;
+use c0_typed::TypedExpr;
+use masm::registers::{ARGUMENTS, FRAME_END};
 
-// The number that an expression is written as.
-fn literal(expr: &Expr) -> Option<u32>
-    ensures { result ≡ spec.literal_of (expr_view expr.now) }
+// The word that an expression is, where it is written.
+fn word_of(expr: &TypedExpr) -> Option<u32>
+    ensures { result ≡ written_word (typed_expr_view expr.now) }
 {
     match expr {
-        Expr::Num(_, number) => Some(*number),
-        Expr::True(_) => None,
-        Expr::False(_) => None,
-        Expr::Null(_) => None,
-        Expr::Var(_) => None,
-        Expr::Field(_, _, _) => None,
-        Expr::Arrow(_, _, _) => None,
-        Expr::Index(_, _, _) => None,
-        Expr::Deref(_, _) => None,
-        Expr::AddressOf(_, _) => None,
-        Expr::Unary(_, _, _) => None,
-        Expr::Binary(_, _, _, _) => None,
+        TypedExpr::Global(_) => None,
+        TypedExpr::Local(_, _) => None,
+        TypedExpr::Part(_, _) => None,
+        TypedExpr::Element(_, _, _) => None,
+        TypedExpr::Target(_) => None,
+        TypedExpr::Constant(word) => Some(*word),
+        TypedExpr::Address(_) => None,
+        TypedExpr::Negative(_) => None,
+        TypedExpr::Negation(_) => None,
+        TypedExpr::Plain(_, _, _) => None,
+        TypedExpr::Quotient(_, _) => None,
+        TypedExpr::Remainder(_, _) => None,
+        TypedExpr::Both(_, _) => None,
+        TypedExpr::Either(_, _) => None,
     }
 }
 
-// The word of an operator before a number.
-fn negative_of(op: UnaryOp, number: Option<u32>) -> Option<u32>
-    ensures { result ≡ spec.negative_of op number }
+/// The word that an expression is known to be.
+pub fn known_word(expr: &TypedExpr) -> Option<u32>
+    ensures { (st : FrameSetting) → result ≡ (node_made st (typed_expr_view expr.now)).known }
 {
-    match op {
-        UnaryOp::Negate => match number {
-            Some(number) => Some(number.wrapping_neg()),
-            None => None,
-        },
-        UnaryOp::Not => None,
-    }
+    word_of(expr)
 }
 
-// The word that an expression is known to be.
-fn known(expr: &Expr) -> Option<u32>
-    ensures { result ≡ spec.known_of (expr_view expr.now) }
-{
-    match expr {
-        Expr::Num(_, number) => Some(*number),
-        Expr::True(_) => Some(1),
-        Expr::False(_) => Some(0),
-        Expr::Null(_) => Some(0),
-        Expr::Var(_) => None,
-        Expr::Field(_, _, _) => None,
-        Expr::Arrow(_, _, _) => None,
-        Expr::Index(_, _, _) => None,
-        Expr::Deref(_, _) => None,
-        Expr::AddressOf(_, _) => None,
-        Expr::Unary(_, op, part) => negative_of(*op, literal(part)),
-        Expr::Binary(_, _, _, _) => None,
-    }
-}
-
-// Register 0, where a known word is 0.
-fn zero_register(known: Option<u32>) -> Option<u32>
-    ensures value { result ≡ spec.zero_register known }
+// Register 0, where a word is 0.
+fn zero_of(word: u32) -> Option<u32>
+    ensures value { result ≡ zero_register (Some word) }
     ensures small { IfSome result (λ q. q < 32) }
 {
-    match known {
-        Some(word) => { if word == 0 { Some(0) } else { None } }
-        None => None,
-    }
+    if word == 0 { Some(0) } else { None }
 }
 
-// The register of a variable, where variables stand in registers.
+// The register of a variable.
 fn register_of(number: u32) -> u32
-    ensures value { result ≡ code.register_of_variable number }
+    ensures value { result ≡ register_of_variable number }
     ensures small { result < 32 }
 {
     ((u64::from(ARGUMENTS) + u64::from(number)) % 32) as u32
 }
 
-// The register of a variable, where it stands in one.
-fn variable_register(in_registers: bool, kind: Kind, number: u32) -> Option<u32>
-    ensures value { result ≡ spec.variable_register in_registers kind number }
+// The register of a variable, where variables stand in registers.
+fn register_where(in_registers: bool, number: u32) -> Option<u32>
+    ensures value { result ≡ local_register in_registers number }
     ensures small { IfSome result (λ q. q < 32) }
 {
-    match kind {
-        Kind::Unresolved => None,
-        Kind::Struct => None,
-        Kind::Field => None,
-        Kind::Global => None,
-        Kind::Local => {
-            if in_registers {
-                Some(register_of(number))
-            } else {
-                None
-            }
-        }
-        Kind::Function => None,
-        Kind::Primitive => None,
+    if in_registers {
+        Some(register_of(number))
+    } else {
+        None
     }
 }
 
 // The register in which an expression stands with no code; `in_registers` tells whether variables do.
-fn stands(in_registers: bool, expr: &Expr) -> Option<u32>
-    ensures value { result ≡ spec.stands_of in_registers (expr_view expr.now) }
+fn stands(in_registers: bool, expr: &TypedExpr) -> Option<u32>
+    ensures value { result ≡ stands_of in_registers (typed_expr_view expr.now) }
     ensures small { IfSome result (λ q. q < 32) }
 {
     match expr {
-        Expr::Num(_, number) => zero_register(Some(*number)),
-        Expr::True(_) => None,
-        Expr::False(_) => Some(0),
-        Expr::Null(_) => Some(0),
-        Expr::Var(name) => variable_register(in_registers, name.kind, name.number),
-        Expr::Field(_, _, _) => None,
-        Expr::Arrow(_, _, _) => None,
-        Expr::Index(_, _, _) => None,
-        Expr::Deref(_, _) => None,
-        Expr::AddressOf(_, _) => None,
-        Expr::Unary(_, op, part) => zero_register(negative_of(*op, literal(part))),
-        Expr::Binary(_, _, _, _) => None,
+        TypedExpr::Global(_) => None,
+        TypedExpr::Local(number, _) => register_where(in_registers, *number),
+        TypedExpr::Part(_, _) => None,
+        TypedExpr::Element(_, _, _) => None,
+        TypedExpr::Target(_) => None,
+        TypedExpr::Constant(word) => zero_of(*word),
+        TypedExpr::Address(_) => None,
+        TypedExpr::Negative(_) => None,
+        TypedExpr::Negation(_) => None,
+        TypedExpr::Plain(_, _, _) => None,
+        TypedExpr::Quotient(_, _) => None,
+        TypedExpr::Remainder(_, _) => None,
+        TypedExpr::Both(_, _) => None,
+        TypedExpr::Either(_, _) => None,
     }
 }
 
-/// The number that an expression is written as.
-pub fn literal_of(expr: &Expr) -> Option<u32>
-    ensures { (sc : Scope) → result ≡ (made sc (expr_view expr.now)).literal }
-{
-    literal(expr)
-}
-
-/// The word that an expression is known to be.
-pub fn known_of(expr: &Expr) -> Option<u32>
-    ensures { (sc : Scope) → result ≡ (made sc (expr_view expr.now)).known }
-{
-    known(expr)
-}
-
 /// The register in which an expression stands with no code.
-pub fn stands_in(scene: &Scene<'_>, expr: &Expr) -> Option<u32>
-    ensures value { result ≡ (made_in scene.now expr.now).stands }
+pub fn register_standing(setting: &CodeSetting, expr: &TypedExpr) -> Option<u32>
+    ensures value { result ≡ (node_in setting.now expr.now).stands }
     ensures small { IfSome result (λ q. q < 32) }
 {
-    stands(scene.in_registers, expr)
+    stands(setting.in_registers, expr)
 }
 
-/// The number that an expression is written as, where it is below a bound.
-pub fn constant_below(expr: &Expr, bound: u32) -> Option<u32>
-    ensures { (sc : Scope) → result ≡ below_of (made sc (expr_view expr.now)).literal bound }
+/// The bytes from the frame's end to a word of the frame, modulo 2^32.
+pub fn frame_bytes(setting: &CodeSetting, word: u64) -> u32
+    ensures { result ≡ (2 ^ 32 - 4 * setting.now.frame % 2 ^ 32 + 4 * word) % 2 ^ 32 }
 {
-    match literal_of(expr) {
-        Some(number) => { if number < bound { Some(number) } else { None } }
-        None => None,
+    wrapped(word.wrapping_sub(setting.frame).wrapping_mul(4))
+}
+
+/// The place of a variable so many words behind the first one; no place where it stands in a register.
+pub fn local_address(setting: &CodeSetting, words: u64) -> Address
+    ensures place { (n r : ℕ) → IsSameAddress result ((local_node (setting_in setting.now) n words).place r) }
+    ensures base { result.base < 32 }
+{
+    if setting.in_registers {
+        Address::none()
+    } else {
+        Address {
+            base: FRAME_END,
+            displacement: frame_bytes(setting, words.wrapping_add(3)),
+        }
     }
 }

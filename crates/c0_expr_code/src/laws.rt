@@ -3,7 +3,6 @@
 ghost use Rattle.c0_expr_code.specs.Laws.{AreasHold, CodesAreShort, CodesInRange, CostsAreFew, ExitsAreNear, ExpressionsRun, GivenRun};
 ghost use Rattle.c0_expr_code.specs.Laws.{HeldElsewhere, HeldStays, NamesAreEnough, PartsFit, PlacesRun, StoresHold, StoresRun, TestsRun};
 ghost use Rattle.mips_table.specs.Code.{World, Sound};
-ghost use Rattle.c0_expr_code.specs.Jumps.{JumpsAreWithin, PatchesAim};
 ghost use Rattle.c0_expr_code.specs.Rows.{AreAddresses, AreSums, AreTests};
 
 use c0_meaning::laws::{units_are_typed_or_faulty, words_are_those_of_the_parts};
@@ -92,14 +91,4 @@ pub fn worked_rows()
 pub fn codes_are_in_range()
     ensures codes { CodesInRange }
     ensures exits { ExitsAreNear }
-{}
-
-/// A test's code whose branches have no distances yet is the test's code once it is patched.
-pub fn patches_aim()
-    ensures { PatchesAim }
-{}
-
-/// The branches of a test's code whose branches have no distances yet stand in that code.
-pub fn jumps_are_within()
-    ensures { JumpsAreWithin }
 {}

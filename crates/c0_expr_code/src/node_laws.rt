@@ -3,7 +3,6 @@
 ghost use Rattle.c0_expr_code.specs.Node.{NodesAreMade};
 ghost use Rattle.c0_expr_code.specs.NodeJumps.{NodeJumpsAreWithin, NodePatchesAim};
 
-use c0_meaning::laws::offsets_are_those;
 use c0_typed::laws::{elements_are_those, fields_are_those, variables_are_those};
 
 /// The code of the typed tree of a typed expression is that of the expression.

@@ -1,17 +1,19 @@
 // Operators between registers and constants.
 
-ghost use Rattle.std.specs.Prelude.{◌≡◌, ◌∷◌, [], ◌%◌, ◌^◌, ◌<◌, true};
+ghost use Rattle.std.specs.Prelude.{◌≡◌, ◌∷◌, [], ◌^◌, ◌<◌, true};
 ghost use Rattle.mips_table.specs.declared.inst.Inst.TheVariants.{Addiu, Mflo, Mult, Slt, Slti, Xor, Xori};
 ghost use Rattle.mips_table.specs.Encoding.{InRange};
-ghost use Rattle.c0_expr_code.specs.Scene.{scope_in};
-ghost use Rattle.c0_expr_code.specs.Sorted.{order_of, plain_of};
-ghost use Rattle.c0_expr_code.specs.Code.{divisor_code, immediate, operator_code, negated, low as lower};
-ghost use Rattle.c0_expr_code.specs.Emit.{Appends, code_with, division_code, equality_code, is_immediate, taken_inst, zero_test};
+ghost use Rattle.c0_typed.specs.Sorted.{order_of, plain_of};
+ghost use Rattle.c0_expr_code.specs.Code.{immediate, operator_code, low as lower};
+ghost use Rattle.c0_expr_code.specs.Emit.{Appends, code_with, equality_code, is_immediate, taken_inst, zero_test};
+ghost use Rattle.c0_expr_code.specs.EmitNode.{quotient_code};
+ghost use Rattle.c0_expr_code.specs.Node.{divisor_test};
+ghost use Rattle.c0_expr_code.specs.SettingIn.{setting_in};
 
 use crate::element::emit_guard;
-use crate::scene::Scene;
-use crate::sorted::{Order, Plain};
+use crate::setting::CodeSetting;
 use crate::word::{emit, is_near, low};
+use c0_typed::{Order, Plain};
 use mips_table::Inst;
 use std::alloc::AllocError;
 
@@ -315,25 +317,8 @@ pub fn emit_operator(
     }
 }
 
-// Appends the test of a divisor, unless it is known to be other than 0.
-fn emit_divisor(
-    code: &mut Vec<u32>,
-    scene: &Scene<'_>,
-    is_sure: bool,
-    divisor: u32,
-) -> Result<(), AllocError>
-    requires { divisor < 32 }
-    ensures { Appends code.old.items code.new.items (divisor_code (scope_in scene.now) is_sure divisor) result }
-{
-    if is_sure {
-        Ok(())
-    } else {
-        emit_guard(code, divisor, scene.exits.zero_division)
-    }
-}
-
-/// What is taken of a division.
-pub fn taken(is_quotient: bool, target: u32) -> Inst
+// What is taken of a division.
+fn taken(is_quotient: bool, target: u32) -> Inst
     requires { target < 32 }
     ensures value { result ≡ taken_inst is_quotient target }
     ensures range { InRange result }
@@ -345,10 +330,27 @@ pub fn taken(is_quotient: bool, target: u32) -> Inst
     }
 }
 
+// Appends the test of a divisor, unless it is known to be other than 0.
+fn emit_divisor(
+    code: &mut Vec<u32>,
+    setting: &CodeSetting,
+    is_sure: bool,
+    divisor: u32,
+) -> Result<(), AllocError>
+    requires { divisor < 32 }
+    ensures { Appends code.old.items code.new.items (divisor_test (setting_in setting.now) is_sure divisor) result }
+{
+    if is_sure {
+        Ok(())
+    } else {
+        emit_guard(code, divisor, setting.exits.zero_division)
+    }
+}
+
 /// Appends `/`, or else `%`, between two registers, with the test of the right one unless it is known to be other than 0.
 pub fn emit_division(
     code: &mut Vec<u32>,
-    scene: &Scene<'_>,
+    setting: &CodeSetting,
     is_quotient: bool,
     is_sure: bool,
     target: u32,
@@ -358,9 +360,9 @@ pub fn emit_division(
     requires target { target < 32 }
     requires left { left < 32 }
     requires right { right < 32 }
-    ensures { Appends code.old.items code.new.items (division_code (scope_in scene.now) is_quotient is_sure target left right) result }
+    ensures { Appends code.old.items code.new.items (quotient_code (setting_in setting.now) is_quotient is_sure target left right) result }
 {
-    emit_divisor(code, scene, is_sure, right)?;
+    emit_divisor(code, setting, is_sure, right)?;
     emit(
         code,
         Inst::Div {

@@ -1,34 +1,33 @@
-// Tests: code that goes to a place where an expression is true, or where it is false, and else falls through. Where memory is wanting,
-// a part of a test's code and of its branches' places may stand behind what stood before.
+// Tests of typed expressions: code that goes to a place where an expression is true, or where it is false, and else falls through. Where
+// memory is wanting, a part of a test's code and of its branches' places may stand behind what stood before.
 
-ghost use Rattle.std.specs.Prelude.{◌≡◌, ◌+◌, ◌-◌, ◌≤◌, ◌<◌, ◌∷◌, [], ◌++◌, length, not, true, OnOk};
+ghost use Rattle.std.specs.Prelude.{◌≡◌, ◌+◌, ◌-◌, ◌≤◌, ◌<◌, ◌∷◌, [], ◌++◌, length, true, OnOk};
 ghost use Rattle.mips_table.specs.declared.inst.Inst.TheVariants.{Slt};
 ghost use Rattle.mips_table.specs.Encoding.{InRange};
 ghost use Rattle.masm.specs.declared.registers.TheConstants.{SCRATCH as scratch};
-ghost use Rattle.c0_tree.specs.Size.{need, binary_need};
-ghost use Rattle.c0_tree.specs.View.{expr_view};
 ghost use Rattle.c0_tree.specs.declared.tree.BinaryOp.TheVariants.{Eq};
+ghost use Rattle.c0_typed.specs.Size.{typed_need};
+ghost use Rattle.c0_typed.specs.Sorted.{order_of};
+ghost use Rattle.c0_typed.specs.View.{typed_expr_view};
 ghost use Rattle.c0_expr_code.specs.Emit.{Appends};
-ghost use Rattle.c0_expr_code.specs.EmitTest.{AppendsTest, bool_code, bool_unpatched, either_unpatched, equality_unpatched, higher_code, is_test_immediate, logic_unpatched};
-ghost use Rattle.c0_expr_code.specs.EmitTest.{lower_code, unpatched_in, operation_in, order_in, order_unpatched, over_in, registers_in, side_code, test_with};
-ghost use Rattle.c0_expr_code.specs.Scene.{HasNumbers, scope_in};
-ghost use Rattle.c0_expr_code.specs.Sorted.{operator_of, order_of};
+ghost use Rattle.c0_expr_code.specs.EmitNodeTest.{bool_node, constant_node, joined_node, logic_node, open_node, open_order, operation_node, order_node, over_node, registers_node};
+ghost use Rattle.c0_expr_code.specs.EmitTest.{AppendsTest, higher_code, is_test_immediate, lower_code, test_with};
+ghost use Rattle.c0_expr_code.specs.Jumps.{last_unpatched};
 ghost use Rattle.c0_expr_code.specs.Test.{below_code, branch_code, compare_code, immediate_test, negative_branch, positive_branch};
 
-use crate::known::known_of;
+use crate::known::known_word;
 use crate::node::emit_operand;
 use crate::operator::{emit_below, less};
 use crate::patching::patch_all;
-use crate::scene::Scene;
-use crate::sorted::{Order, Plain, Sorted, sort_of};
+use crate::setting::CodeSetting;
 use crate::word::{emit, is_near};
-use c0_tree::{Expr, UnaryOp};
+use c0_typed::{Order, Plain, TypedExpr};
 use masm::registers::SCRATCH;
 use mips_table::Inst;
 use std::alloc::{AllocError, Global};
 
-/// The branch to where two registers are equal, or where they differ; it leads nowhere yet.
-pub fn branch(is_equal: bool, left: u32, right: u32) -> Inst
+// The branch to where two registers are equal, or where they differ; it leads nowhere yet.
+fn branch(is_equal: bool, left: u32, right: u32) -> Inst
     requires left { left < 32 }
     requires right { right < 32 }
     ensures value { result ≡ branch_code is_equal left right 0 }
@@ -102,8 +101,8 @@ fn emit_less_test(
     emit(code, branch(is_not, SCRATCH, 0))
 }
 
-/// Appends an order of two registers as a test.
-pub fn emit_comparison(
+// Appends an order of two registers as a test.
+fn emit_comparison(
     code: &mut Vec<u32>,
     order: Order,
     wanted: bool,
@@ -136,8 +135,8 @@ fn emit_below_test(
     emit(code, branch(!wanted, SCRATCH, 0))
 }
 
-/// Whether an order has a test with room for a constant on its right side.
-pub fn tests_constant(order: Order, word: u32) -> bool
+// Whether an order has a test with room for a constant on its right side.
+fn tests_constant(order: Order, word: u32) -> bool
     ensures { result ≡ is_test_immediate (immediate_test (order_of order) word) }
 {
     match order {
@@ -170,8 +169,8 @@ fn emit_higher(code: &mut Vec<u32>, wanted: bool, left: u32, word: u32) -> Resul
     emit_below_test(code, !wanted, left, word.wrapping_add(1))
 }
 
-/// Appends the test of a register against a constant that its operator has room for.
-pub fn emit_constant_test(
+// Appends the test of a register against a constant that its operator has room for.
+fn emit_constant_test(
     code: &mut Vec<u32>,
     order: Order,
     wanted: bool,
@@ -190,8 +189,8 @@ pub fn emit_constant_test(
     }
 }
 
-/// Notes the place of the last word.
-pub fn note_last(code: &[u32], jumps: &mut Vec<usize>) -> Result<(), AllocError>
+// Notes the place of the last word.
+fn note_last(code: &[u32], jumps: &mut Vec<usize>) -> Result<(), AllocError>
     requires { 0 < length code.now }
     ensures { OnOk result (jumps.new.items ≡ jumps.old.items ++ (length code.now - 1) ∷ []) }
 {
@@ -201,160 +200,176 @@ pub fn note_last(code: &[u32], jumps: &mut Vec<usize>) -> Result<(), AllocError>
 
 // Appends the code of a bool's test.
 fn emit_bool_code(
-    scene: &Scene<'_>,
-    expr: &Expr,
+    setting: &CodeSetting,
+    expr: &TypedExpr,
     wanted: bool,
     free: u32,
     code: &mut Vec<u32>,
 ) -> Result<(), AllocError>
-    requires room { free + need (expr_view expr.now) ≤ 20 }
-    requires numbers { HasNumbers (scope_in scene.now).env (expr_view expr.now) }
-    ensures { Appends code.old.items code.new.items (bool_code (scope_in scene.now) (expr_view expr.now) wanted free) result }
+    requires room { free + typed_need (typed_expr_view expr.now) ≤ 20 }
+    ensures { Appends code.old.items code.new.items (bool_node setting.now expr.now wanted free) result }
 {
-    let register = emit_operand(scene, expr, free, code)?;
+    let register = emit_operand(setting, expr, free, code)?;
     emit(code, branch(!wanted, register, 0))
 }
 
 // Appends the code of a side, and of its test against a constant.
 fn emit_one_side(
-    scene: &Scene<'_>,
+    setting: &CodeSetting,
     order: Order,
-    side: &Expr,
+    side: &TypedExpr,
     word: u32,
     wanted: bool,
     free: u32,
     code: &mut Vec<u32>,
 ) -> Result<(), AllocError>
-    requires room { free + need (expr_view side.now) ≤ 20 }
-    requires numbers { HasNumbers (scope_in scene.now).env (expr_view side.now) }
+    requires room { free + typed_need (typed_expr_view side.now) ≤ 20 }
     requires takes { is_test_immediate (immediate_test (order_of order) word) ≡ true }
-    ensures { Appends code.old.items code.new.items (side_code (scope_in scene.now) (order_of order) word (expr_view side.now) wanted free) result }
+    ensures { Appends code.old.items code.new.items (constant_node setting.now (order_of order) word side.now wanted free) result }
 {
-    let register = emit_operand(scene, side, free, code)?;
+    let register = emit_operand(setting, side, free, code)?;
     emit_constant_test(code, order, wanted, register, word)
 }
 
 // Appends the code of both sides, and of their comparison by an order.
 fn emit_two_sides(
-    scene: &Scene<'_>,
+    setting: &CodeSetting,
     order: Order,
-    left: &Expr,
-    right: &Expr,
+    left: &TypedExpr,
+    right: &TypedExpr,
     wanted: bool,
     free: u32,
     code: &mut Vec<u32>,
 ) -> Result<(), AllocError>
-    requires first { free + need (expr_view left.now) ≤ 20 }
-    requires second { free + 1 + need (expr_view right.now) ≤ 20 }
-    requires left { HasNumbers (scope_in scene.now).env (expr_view left.now) }
-    requires right { HasNumbers (scope_in scene.now).env (expr_view right.now) }
-    ensures { Appends code.old.items code.new.items (registers_in scene.now (order_of order) left.now right.now wanted free) result }
+    requires first { free + typed_need (typed_expr_view left.now) ≤ 20 }
+    requires second { free + 1 + typed_need (typed_expr_view right.now) ≤ 20 }
+    ensures { Appends code.old.items code.new.items (registers_node setting.now (order_of order) left.now right.now wanted free) result }
 {
-    let first = emit_operand(scene, left, free, code)?;
-    let second = emit_operand(scene, right, free + 1, code)?;
+    let first = emit_operand(setting, left, free, code)?;
+    let second = emit_operand(setting, right, free + 1, code)?;
     emit_comparison(code, order, wanted, first, second)
 }
 
 // Appends the code of a comparison by an order, whose right side may be a constant.
 fn emit_order(
-    scene: &Scene<'_>,
+    setting: &CodeSetting,
     order: Order,
-    left: &Expr,
-    right: &Expr,
+    left: &TypedExpr,
+    right: &TypedExpr,
     wanted: bool,
     free: u32,
     code: &mut Vec<u32>,
 ) -> Result<(), AllocError>
-    requires first { free + need (expr_view left.now) ≤ 20 }
-    requires second { free + 1 + need (expr_view right.now) ≤ 20 }
-    requires left { HasNumbers (scope_in scene.now).env (expr_view left.now) }
-    requires right { HasNumbers (scope_in scene.now).env (expr_view right.now) }
-    ensures { Appends code.old.items code.new.items (order_in scene.now (order_of order) left.now right.now wanted free) result }
+    requires first { free + typed_need (typed_expr_view left.now) ≤ 20 }
+    requires second { free + 1 + typed_need (typed_expr_view right.now) ≤ 20 }
+    ensures { Appends code.old.items code.new.items (order_node setting.now (order_of order) left.now right.now wanted free) result }
 {
-    if let Some(word) = known_of(right) {
+    if let Some(word) = known_word(right) {
         if tests_constant(order, word) {
-            return emit_one_side(scene, order, left, word, wanted, free, code);
+            return emit_one_side(setting, order, left, word, wanted, free, code);
         }
     }
-    emit_two_sides(scene, order, left, right, wanted, free, code)
+    emit_two_sides(setting, order, left, right, wanted, free, code)
 }
 
 // Appends the test of a bool.
 fn emit_bool(
-    scene: &Scene<'_>,
-    expr: &Expr,
+    setting: &CodeSetting,
+    expr: &TypedExpr,
     wanted: bool,
     free: u32,
     code: &mut Vec<u32>,
     jumps: &mut Vec<usize>,
 ) -> Result<(), AllocError>
-    requires room { free + need (expr_view expr.now) ≤ 20 }
-    requires numbers { HasNumbers (scope_in scene.now).env (expr_view expr.now) }
-    ensures { AppendsTest code.old code.new jumps.old jumps.new (bool_unpatched scene.now expr.now wanted free) result }
+    requires room { free + typed_need (typed_expr_view expr.now) ≤ 20 }
+    ensures { AppendsTest code.old code.new jumps.old jumps.new (last_unpatched (bool_node setting.now expr.now wanted free)) result }
 {
-    emit_bool_code(scene, expr, wanted, free, code)?;
+    emit_bool_code(setting, expr, wanted, free, code)?;
     note_last(code, jumps)
 }
 
 // Appends a comparison by an order as a test.
 fn emit_order_test(
-    scene: &Scene<'_>,
+    setting: &CodeSetting,
     order: Order,
-    left: &Expr,
-    right: &Expr,
+    left: &TypedExpr,
+    right: &TypedExpr,
     wanted: bool,
     free: u32,
     code: &mut Vec<u32>,
     jumps: &mut Vec<usize>,
 ) -> Result<(), AllocError>
-    requires first { free + need (expr_view left.now) ≤ 20 }
-    requires second { free + 1 + need (expr_view right.now) ≤ 20 }
-    requires left { HasNumbers (scope_in scene.now).env (expr_view left.now) }
-    requires right { HasNumbers (scope_in scene.now).env (expr_view right.now) }
-    ensures { AppendsTest code.old code.new jumps.old jumps.new (order_unpatched scene.now (order_of order) left.now right.now wanted free) result }
+    requires first { free + typed_need (typed_expr_view left.now) ≤ 20 }
+    requires second { free + 1 + typed_need (typed_expr_view right.now) ≤ 20 }
+    ensures { AppendsTest code.old code.new jumps.old jumps.new (open_order setting.now order left.now right.now wanted free) result }
 {
-    emit_order(scene, order, left, right, wanted, free, code)?;
+    emit_order(setting, order, left, right, wanted, free, code)?;
     note_last(code, jumps)
 }
 
 // Appends the code of both sides, and of the branch to where they are equal, or where they differ.
 fn emit_equality(
-    scene: &Scene<'_>,
-    left: &Expr,
-    right: &Expr,
+    setting: &CodeSetting,
+    left: &TypedExpr,
+    right: &TypedExpr,
     wanted: bool,
     free: u32,
     code: &mut Vec<u32>,
 ) -> Result<(), AllocError>
-    requires first { free + need (expr_view left.now) ≤ 20 }
-    requires second { free + 1 + need (expr_view right.now) ≤ 20 }
-    requires left { HasNumbers (scope_in scene.now).env (expr_view left.now) }
-    requires right { HasNumbers (scope_in scene.now).env (expr_view right.now) }
-    ensures { Appends code.old.items code.new.items (registers_in scene.now Eq left.now right.now wanted free) result }
+    requires first { free + typed_need (typed_expr_view left.now) ≤ 20 }
+    requires second { free + 1 + typed_need (typed_expr_view right.now) ≤ 20 }
+    ensures { Appends code.old.items code.new.items (registers_node setting.now Eq left.now right.now wanted free) result }
 {
-    let first = emit_operand(scene, left, free, code)?;
-    let second = emit_operand(scene, right, free + 1, code)?;
+    let first = emit_operand(setting, left, free, code)?;
+    let second = emit_operand(setting, right, free + 1, code)?;
     emit(code, branch(wanted, first, second))
 }
 
 // Appends `==` as a test; `!=` is that for the other answer.
 fn emit_equality_test(
-    scene: &Scene<'_>,
-    left: &Expr,
-    right: &Expr,
+    setting: &CodeSetting,
+    left: &TypedExpr,
+    right: &TypedExpr,
     wanted: bool,
     free: u32,
     code: &mut Vec<u32>,
     jumps: &mut Vec<usize>,
 ) -> Result<(), AllocError>
-    requires first { free + need (expr_view left.now) ≤ 20 }
-    requires second { free + 1 + need (expr_view right.now) ≤ 20 }
-    requires left { HasNumbers (scope_in scene.now).env (expr_view left.now) }
-    requires right { HasNumbers (scope_in scene.now).env (expr_view right.now) }
-    ensures { AppendsTest code.old code.new jumps.old jumps.new (equality_unpatched scene.now left.now right.now wanted free) result }
+    requires first { free + typed_need (typed_expr_view left.now) ≤ 20 }
+    requires second { free + 1 + typed_need (typed_expr_view right.now) ≤ 20 }
+    ensures { AppendsTest code.old code.new jumps.old jumps.new (last_unpatched (registers_node setting.now Eq left.now right.now wanted free)) result }
 {
-    emit_equality(scene, left, right, wanted, free, code)?;
+    emit_equality(setting, left, right, wanted, free, code)?;
     note_last(code, jumps)
+}
+
+// Appends the test of an operator on two registers; `whole` is the expression that they make.
+fn emit_operation(
+    setting: &CodeSetting,
+    whole: &TypedExpr,
+    op: Plain,
+    left: &TypedExpr,
+    right: &TypedExpr,
+    wanted: bool,
+    free: u32,
+    code: &mut Vec<u32>,
+    jumps: &mut Vec<usize>,
+) -> Result<(), AllocError>
+    requires whole { free + typed_need (typed_expr_view whole.now) ≤ 20 }
+    requires first { free + typed_need (typed_expr_view left.now) ≤ 20 }
+    requires second { free + 1 + typed_need (typed_expr_view right.now) ≤ 20 }
+    ensures { AppendsTest code.old code.new jumps.old jumps.new (operation_node setting.now whole.now op left.now right.now wanted free) result }
+{
+    match op {
+        Plain::Sum => emit_bool(setting, whole, wanted, free, code, jumps),
+        Plain::Difference => emit_bool(setting, whole, wanted, free, code, jumps),
+        Plain::Product => emit_bool(setting, whole, wanted, free, code, jumps),
+        Plain::Order(order) => {
+            emit_order_test(setting, order, left, right, wanted, free, code, jumps)
+        }
+        Plain::Equal => emit_equality_test(setting, left, right, wanted, free, code, jumps),
+        Plain::Different => emit_equality_test(setting, left, right, !wanted, free, code, jumps),
+    }
 }
 
 /// Appends the code of a test: it goes to a place where the expression is `wanted`, and else falls through. Its branches to the place
@@ -364,85 +379,41 @@ fn emit_equality_test(
 #[cycle(testing)]
 pub fn emit_test(
     alloc: Global,
-    scene: &Scene<'_>,
-    expr: &Expr,
+    setting: &CodeSetting,
+    expr: &TypedExpr,
     wanted: bool,
     free: u32,
     code: &mut Vec<u32>,
     jumps: &mut Vec<usize>,
 ) -> Result<(), AllocError>
-    requires room { free + need (expr_view expr.now) ≤ 20 }
-    requires numbers { HasNumbers (scope_in scene.now).env (expr_view expr.now) }
-    ensures { AppendsTest code.old code.new jumps.old jumps.new (unpatched_in scene.now expr.now wanted free) result }
+    requires { free + typed_need (typed_expr_view expr.now) ≤ 20 }
+    ensures { AppendsTest code.old code.new jumps.old jumps.new (open_node setting.now expr.now wanted free) result }
 {
     match expr {
-        Expr::Num(_, _) => emit_bool(scene, expr, wanted, free, code, jumps),
-        Expr::True(_) => emit_bool(scene, expr, wanted, free, code, jumps),
-        Expr::False(_) => emit_bool(scene, expr, wanted, free, code, jumps),
-        Expr::Null(_) => emit_bool(scene, expr, wanted, free, code, jumps),
-        Expr::Var(_) => emit_bool(scene, expr, wanted, free, code, jumps),
-        Expr::Field(_, _, _) => emit_bool(scene, expr, wanted, free, code, jumps),
-        Expr::Arrow(_, _, _) => emit_bool(scene, expr, wanted, free, code, jumps),
-        Expr::Index(_, _, _) => emit_bool(scene, expr, wanted, free, code, jumps),
-        Expr::Deref(_, _) => emit_bool(scene, expr, wanted, free, code, jumps),
-        Expr::AddressOf(_, _) => emit_bool(scene, expr, wanted, free, code, jumps),
-        Expr::Unary(_, op, part) => match op {
-            UnaryOp::Negate => emit_bool(scene, expr, wanted, free, code, jumps),
-            UnaryOp::Not => emit_test(alloc, scene, part, !wanted, free, code, jumps),
-        },
-        Expr::Binary(_, op, left, right) => {
-            emit_operation(
-                alloc,
-                scene,
-                expr,
-                sort_of(*op),
-                left,
-                right,
-                wanted,
-                free,
-                code,
-                jumps,
+        TypedExpr::Global(_) => emit_bool(setting, expr, wanted, free, code, jumps),
+        TypedExpr::Local(_, _) => emit_bool(setting, expr, wanted, free, code, jumps),
+        TypedExpr::Part(_, _) => emit_bool(setting, expr, wanted, free, code, jumps),
+        TypedExpr::Element(_, _, _) => emit_bool(setting, expr, wanted, free, code, jumps),
+        TypedExpr::Target(_) => emit_bool(setting, expr, wanted, free, code, jumps),
+        TypedExpr::Constant(_) => emit_bool(setting, expr, wanted, free, code, jumps),
+        TypedExpr::Address(_) => emit_bool(setting, expr, wanted, free, code, jumps),
+        TypedExpr::Negative(_) => emit_bool(setting, expr, wanted, free, code, jumps),
+        TypedExpr::Negation(operand) => {
+            emit_test(alloc, setting, operand, !wanted, free, code, jumps)
+        }
+        TypedExpr::Plain(op, left, right) => {
+            emit_operation(setting, expr, *op, left, right, wanted, free, code, jumps)
+        }
+        TypedExpr::Quotient(_, _) => emit_bool(setting, expr, wanted, free, code, jumps),
+        TypedExpr::Remainder(_, _) => emit_bool(setting, expr, wanted, free, code, jumps),
+        TypedExpr::Both(left, right) => {
+            emit_both(
+                alloc, setting, false, left, right, wanted, free, code, jumps,
             )
         }
-    }
-}
-
-// Appends the test of an operator between two operands; `whole` is the expression that they make.
-#[cycle(testing)]
-fn emit_operation(
-    alloc: Global,
-    scene: &Scene<'_>,
-    whole: &Expr,
-    op: Sorted,
-    left: &Expr,
-    right: &Expr,
-    wanted: bool,
-    free: u32,
-    code: &mut Vec<u32>,
-    jumps: &mut Vec<usize>,
-) -> Result<(), AllocError>
-    requires whole { free + need (expr_view whole.now) ≤ 20 }
-    requires room { free + binary_need (operator_of op) (need (expr_view left.now)) (need (expr_view right.now)) ≤ 20 }
-    requires numbers { HasNumbers (scope_in scene.now).env (expr_view whole.now) }
-    requires left { HasNumbers (scope_in scene.now).env (expr_view left.now) }
-    requires right { HasNumbers (scope_in scene.now).env (expr_view right.now) }
-    ensures { AppendsTest code.old code.new jumps.old jumps.new (operation_in scene.now whole.now (operator_of op) left.now right.now wanted free) result }
-{
-    match op {
-        Sorted::Plain(op) => match op {
-            Plain::Sum => emit_bool(scene, whole, wanted, free, code, jumps),
-            Plain::Difference => emit_bool(scene, whole, wanted, free, code, jumps),
-            Plain::Product => emit_bool(scene, whole, wanted, free, code, jumps),
-            Plain::Order(order) => emit_order_test(
-                scene, order, left, right, wanted, free, code, jumps,
-            ),
-            Plain::Equal => emit_equality_test(scene, left, right, wanted, free, code, jumps),
-            Plain::Different => emit_equality_test(scene, left, right, !wanted, free, code, jumps),
-        },
-        Sorted::Quotient => emit_bool(scene, whole, wanted, free, code, jumps),
-        Sorted::Remainder => emit_bool(scene, whole, wanted, free, code, jumps),
-        Sorted::Both => emit_both(alloc, scene, false, left, right, wanted, free, code, jumps),
-        Sorted::Either => emit_both(alloc, scene, true, left, right, wanted, free, code, jumps),
+        TypedExpr::Either(left, right) => {
+            emit_both(alloc, setting, true, left, right, wanted, free, code, jumps)
+        }
     }
 }
 
@@ -450,25 +421,23 @@ fn emit_operation(
 #[cycle(testing)]
 fn emit_both(
     alloc: Global,
-    scene: &Scene<'_>,
+    setting: &CodeSetting,
     decides: bool,
-    left: &Expr,
-    right: &Expr,
+    left: &TypedExpr,
+    right: &TypedExpr,
     wanted: bool,
     free: u32,
     code: &mut Vec<u32>,
     jumps: &mut Vec<usize>,
 ) -> Result<(), AllocError>
-    requires first { free + need (expr_view left.now) ≤ 20 }
-    requires second { free + need (expr_view right.now) ≤ 20 }
-    requires left { HasNumbers (scope_in scene.now).env (expr_view left.now) }
-    requires right { HasNumbers (scope_in scene.now).env (expr_view right.now) }
-    ensures { AppendsTest code.old code.new jumps.old jumps.new (logic_unpatched scene.now decides left.now right.now wanted free) result }
+    requires first { free + typed_need (typed_expr_view left.now) ≤ 20 }
+    requires second { free + typed_need (typed_expr_view right.now) ≤ 20 }
+    ensures { AppendsTest code.old code.new jumps.old jumps.new (logic_node setting.now decides left.now right.now wanted free) result }
 {
     if decides == wanted {
-        emit_joined(alloc, scene, left, right, wanted, free, code, jumps)
+        emit_joined(alloc, setting, left, right, wanted, free, code, jumps)
     } else {
-        emit_over(alloc, scene, left, right, wanted, free, code, jumps)
+        emit_over(alloc, setting, left, right, wanted, free, code, jumps)
     }
 }
 
@@ -476,45 +445,41 @@ fn emit_both(
 #[cycle(testing)]
 fn emit_joined(
     alloc: Global,
-    scene: &Scene<'_>,
-    left: &Expr,
-    right: &Expr,
+    setting: &CodeSetting,
+    left: &TypedExpr,
+    right: &TypedExpr,
     wanted: bool,
     free: u32,
     code: &mut Vec<u32>,
     jumps: &mut Vec<usize>,
 ) -> Result<(), AllocError>
-    requires first { free + need (expr_view left.now) ≤ 20 }
-    requires second { free + need (expr_view right.now) ≤ 20 }
-    requires left { HasNumbers (scope_in scene.now).env (expr_view left.now) }
-    requires right { HasNumbers (scope_in scene.now).env (expr_view right.now) }
-    ensures { AppendsTest code.old code.new jumps.old jumps.new (either_unpatched scene.now left.now right.now wanted free) result }
+    requires first { free + typed_need (typed_expr_view left.now) ≤ 20 }
+    requires second { free + typed_need (typed_expr_view right.now) ≤ 20 }
+    ensures { AppendsTest code.old code.new jumps.old jumps.new (joined_node setting.now left.now right.now wanted free) result }
 {
-    emit_test(alloc, scene, left, wanted, free, code, jumps)?;
-    emit_test(alloc, scene, right, wanted, free, code, jumps)
+    emit_test(alloc, setting, left, wanted, free, code, jumps)?;
+    emit_test(alloc, setting, right, wanted, free, code, jumps)
 }
 
 // Appends two tests, of which the first goes over the second where it isn't `wanted`.
 #[cycle(testing)]
 fn emit_over(
     alloc: Global,
-    scene: &Scene<'_>,
-    left: &Expr,
-    right: &Expr,
+    setting: &CodeSetting,
+    left: &TypedExpr,
+    right: &TypedExpr,
     wanted: bool,
     free: u32,
     code: &mut Vec<u32>,
     jumps: &mut Vec<usize>,
 ) -> Result<(), AllocError>
-    requires first { free + need (expr_view left.now) ≤ 20 }
-    requires second { free + need (expr_view right.now) ≤ 20 }
-    requires left { HasNumbers (scope_in scene.now).env (expr_view left.now) }
-    requires right { HasNumbers (scope_in scene.now).env (expr_view right.now) }
-    ensures { AppendsTest code.old code.new jumps.old jumps.new (over_in scene.now left.now right.now wanted free) result }
+    requires first { free + typed_need (typed_expr_view left.now) ≤ 20 }
+    requires second { free + typed_need (typed_expr_view right.now) ≤ 20 }
+    ensures { AppendsTest code.old code.new jumps.old jumps.new (over_node setting.now left.now right.now wanted free) result }
 {
     let mut over = Vec::new(alloc);
-    emit_test(alloc, scene, left, !wanted, free, code, &mut over)?;
-    emit_test(alloc, scene, right, wanted, free, code, jumps)?;
+    emit_test(alloc, setting, left, !wanted, free, code, &mut over)?;
+    emit_test(alloc, setting, right, wanted, free, code, jumps)?;
     let end = code.len();
     patch_all(code, &over, end);
     Ok(())

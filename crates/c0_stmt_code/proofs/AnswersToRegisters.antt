@@ -26,7 +26,7 @@ use Rattle.c0_stmt_code.specs.Setup.{Setup}
 use Rattle.c0_stmt_code.specs.Ahead.{Activation, body_env, HasAnswerPlace, Block, Ahead}
 use Rattle.c0_stmt_code.specs.Standing.{code_text, scope, bases, end_of, unit_scope, word_of_value, Waiting, FunctionRuns, ConfigurationStands}
 use Rattle.c0_stmt_code.proofs.PremisesFromBelow.{HeldStays, TypedStays, LengthsFit}
-use Rattle.c0_stmt_code.proofs.LowerLaws.{room_from}
+use Rattle.c0_stmt_code.proofs.PremisesOfLowerCrates.{room_from}
 use Rattle.c0_stmt_code.proofs.ValuesStay.{word_same}
 use Rattle.c0_stmt_code.proofs.RunStretches.{away}
 use Rattle.c0_stmt_code.proofs.RegionsApart.{words_by_types}

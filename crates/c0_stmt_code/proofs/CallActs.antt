@@ -21,10 +21,11 @@ use Rattle.c0_meaning.specs.Evaluation.{Costed, costs, values_of}
 use Rattle.c0_meaning.specs.World.{Cost, units, plus, Configuration, calls_ended}
 use Rattle.c0_meaning.specs.Running.{Target, into, Work, Step, Stop, then_go, call_function}
 use Rattle.c0_meaning.specs.TypedState.{StoreTyping, types_of, AllFit, store_typing}
+use Rattle.c0_typed.specs.Leaf.{calls_in}
 use Rattle.c0_expr_code.specs.Scope.{Scope}
 use Rattle.c0_expr_code.specs.Bases.{Bases}
 use Rattle.c0_expr_code.specs.Relation.{KeepsRegisters}
-use Rattle.c0_stmt_code.specs.Code.{calls_in, args_code, answer_code}
+use Rattle.c0_stmt_code.specs.Code.{args_code, answer_code}
 use Rattle.c0_stmt_code.specs.Setup.{Setup}
 use Rattle.c0_stmt_code.specs.Ahead.{Activation, body_env, Block, Awaits, Ahead, AnswerIsLive, WaitingAreLive}
 use Rattle.c0_stmt_code.specs.Live.{any_reads, live_at_place}

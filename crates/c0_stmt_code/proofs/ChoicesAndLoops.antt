@@ -17,12 +17,13 @@ use Rattle.c0_meaning.specs.Evaluation.{truth, value_of}
 use Rattle.c0_meaning.specs.World.{units, plus, Configuration}
 use Rattle.c0_meaning.specs.Running.{Work, again, push, Go, then_go, test_loop, store}
 use Rattle.std.proofs.lemmas.Bool.{and_parts}
-use Rattle.c0_expr_code.specs.Scope.{Scope, are_free_of_calls}
+use Rattle.c0_typed.specs.Leaf.{are_calling, are_free_of_calls, calls_in}
+use Rattle.c0_expr_code.specs.Scope.{Scope}
 use Rattle.c0_expr_code.specs.Code.{access_code, made, operand_code, operand_register}
 use Rattle.c0_expr_code.specs.Bases.{Bases}
 use Rattle.c0_expr_code.specs.Test.{test_code}
 use Rattle.c0_expr_code.specs.Relation.{Ready, KeepsRegisters, HoldsValue, Source, nought, its, far, ends}
-use Rattle.c0_stmt_code.specs.Code.{Links, are_calling, calls_in, skip, assigned_code, assign_code, otherwise, otherwise_at, choice_code, back, turn_code, while_code, stmt_code, stmts_code}
+use Rattle.c0_stmt_code.specs.Code.{Links, skip, assigned_code, assign_code, otherwise, otherwise_at, choice_code, back, turn_code, while_code, stmt_code, stmts_code}
 use Rattle.c0_stmt_code.specs.Setup.{Setup}
 use Rattle.c0_expr_code.specs.Reads.{reads}
 use Rattle.c0_stmt_code.specs.Live.{live_at_place, are_live}

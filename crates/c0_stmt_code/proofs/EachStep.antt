@@ -21,7 +21,8 @@ use Rattle.c0_meaning.specs.Evaluation.{values_of}
 use Rattle.c0_meaning.specs.World.{Cost, units, Configuration, calls_ended}
 use Rattle.c0_meaning.specs.Running.{Target, into, outward, Work, act_on, finish, again, leave, begin, then_go, call_with, call_function, act_statement, work_step}
 use Rattle.c0_meaning.specs.TypedState.{types_of, Fits, AllFit, store_typing}
-use Rattle.c0_expr_code.specs.Scope.{Scope, is_free_of_calls}
+use Rattle.c0_typed.specs.Leaf.{is_free_of_calls}
+use Rattle.c0_expr_code.specs.Scope.{Scope}
 use Rattle.c0_expr_code.specs.Bases.{words_of_all}
 use Rattle.c0_expr_code.specs.Laws.{IsOpened, AreasHold}
 use Rattle.c0_expr_code.specs.Code.{made}

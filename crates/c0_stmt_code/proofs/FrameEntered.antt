@@ -19,11 +19,13 @@ use Rattle.c0_meaning.specs.Evaluation.{at_no_cost}
 use Rattle.c0_meaning.specs.World.{Cost, units, plus, Configuration, with_state, calls_ended}
 use Rattle.c0_meaning.specs.Running.{Target, Work, leave, push, Go, Stop, then_go, enter, call_function}
 use Rattle.c0_meaning.specs.TypedState.{types_of, AllFit, store_typing, IsTypedWith, variable_types}
-use Rattle.c0_expr_code.specs.Scope.{Scope, is_leaf, are_free_of_calls}
+use Rattle.c0_typed.specs.Leaf.{are_calling, are_free_of_calls, calls_in, is_leaf}
+use Rattle.c0_expr_code.specs.Scope.{Scope}
+use Rattle.c0_expr_code.specs.FrameSetting.{frame_setting}
 use Rattle.std.specs.List.{list_all}
 use Rattle.c0_stmt_code.proofs.RegisterFrames.{each_scalar, scalars_behind, clears, saves_light}
 use Rattle.c0_expr_code.specs.Bases.{Bases, words_of_all, RegionHeld, LocalsHeld}
-use Rattle.c0_stmt_code.specs.Code.{large_code, end_code, body_code, register_entry, clear_code, are_calling, calls_in, stack_test, save_code, params_code, locals_code, frame_entry, return_code, stmts_code, function_code}
+use Rattle.c0_stmt_code.specs.Code.{large_code, end_code, body_code, register_entry, clear_code, stack_test, save_code, params_code, locals_code, frame_entry, return_code, stmts_code, function_code}
 use Rattle.c0_stmt_code.specs.Setup.{Setup}
 use Rattle.c0_stmt_code.specs.Ahead.{Activation, Awaits, Ahead, AnswerIsLive, WaitingAreLive}
 use Rattle.c0_stmt_code.specs.Live.{are_scalar, is_cleared}
@@ -167,18 +169,18 @@ module _ (runs : RunLaws) (compose : RunsCompose) (W E : Type 0) (Outer : W → 
             })
 
     abbrev its_entry : List CDecl → CStmts → CExpr → List Inst
-    its_entry locals stmts result = save_code sc (are_calling stmts) ++ (params_code sc (length f.params) 0 ++ locals_code sc (is_cleared locals stmts result) (all_words (shapes z.p.unit) (map typed_of locals)) (length f.params))
+    its_entry locals stmts result = save_code (frame_setting sc) (are_calling stmts) ++ (params_code (frame_setting sc) (length f.params) 0 ++ locals_code (frame_setting sc) (is_cleared locals stmts result) (all_words (shapes z.p.unit) (map typed_of locals)) (length f.params))
 
     abbrev its_body : CStmts → CExpr → List Inst
     its_body stmts result = stmts_code sc (code_text W E Outer z).links stmts ++ return_code sc (are_calling stmts) result
 
-    code_is : (locals : List CDecl) (stmts : CStmts) (result : CExpr) → f.body ≡ code locals stmts result → sc.in_registers ≡ false → function_code sc (code_text W E Outer z).links f ≡ (stack_test sc 29 ++ its_entry locals stmts result) ++ its_body stmts result
+    code_is : (locals : List CDecl) (stmts : CStmts) (result : CExpr) → f.body ≡ code locals stmts result → sc.in_registers ≡ false → function_code sc (code_text W E Outer z).links f ≡ (stack_test (frame_setting sc) 29 ++ its_entry locals stmts result) ++ its_body stmts result
     code_is locals stmts result e form =
         ap (λ b. body_code sc (code_text W E Outer z).links (length f.params) b) e
-        ∙ ap (λ is. is ++ its_body stmts result) (cond-false sc.in_registers (register_entry sc (is_cleared locals stmts result) (length f.params) (length locals) (are_calling stmts)) (frame_entry sc (is_cleared locals stmts result) (length f.params) (all_words (shapes z.p.unit) (map typed_of locals)) (are_calling stmts)) form)
+        ∙ ap (λ is. is ++ its_body stmts result) (cond-false sc.in_registers (register_entry (frame_setting sc) (is_cleared locals stmts result) (length f.params) (length locals) (are_calling stmts)) (frame_entry (frame_setting sc) (is_cleared locals stmts result) (length f.params) (all_words (shapes z.p.unit) (map typed_of locals)) (are_calling stmts)) form)
 
-    test_some : 1 ≤ length (stack_test sc 29)
-    test_some = omega (arith, length-append (large_code sc) (end_code 29 (4 * sc.frame) ++ (Sltu 1 30 29 ∷ Beq 1 0 1 ∷ J (sc.exit StackOut) ∷ [])), length-append (end_code 29 (4 * sc.frame)) (Sltu 1 30 29 ∷ Beq 1 0 1 ∷ J (sc.exit StackOut) ∷ []))
+    test_some : 1 ≤ length (stack_test (frame_setting sc) 29)
+    test_some = omega (arith, length-append (large_code (frame_setting sc)) (end_code 29 (4 * sc.frame) ++ (Sltu 1 30 29 ∷ Beq 1 0 1 ∷ J (sc.exit StackOut) ∷ [])), length-append (end_code 29 (4 * sc.frame)) (Sltu 1 30 29 ∷ Beq 1 0 1 ∷ J (sc.exit StackOut) ∷ []))
 
     pub enters : (l m k : ℕ) (cost : Cost) (h0 : Configuration W E) (s0 : CodeState) (locals : List CDecl) (stmts : CStmts) (result : CExpr) → f.body ≡ code locals stmts result → sc.in_registers ≡ false
         → Path runs compose W E Outer z jumps l m s0 (at_with k c d) → CodeAt z.w k (function_code sc (code_text W E Outer z).links f) → cost.own + 9 ≤ 2048 * (l + 1) → m ≤ 30 * cost.own → length calls ≡ calls_ended h0
@@ -194,11 +196,11 @@ module _ (runs : RunLaws) (compose : RunsCompose) (W E : Type 0) (Outer : W → 
         cost2 : Cost
         cost2 = plus (plus cost (units 1)) (units 0)
 
-        code_at : CodeAt z.w k ((stack_test sc 29 ++ its_entry locals stmts result) ++ its_body stmts result)
+        code_at : CodeAt z.w k ((stack_test (frame_setting sc) 29 ++ its_entry locals stmts result) ++ its_body stmts result)
         code_at = subst (CodeAt z.w k) (code_is locals stmts result e form) there
 
-        test_at : CodeAt z.w k (stack_test sc 29)
-        test_at = front z.w k (stack_test sc 29) (its_entry locals stmts result) (front z.w k (stack_test sc 29 ++ its_entry locals stmts result) (its_body stmts result) code_at)
+        test_at : CodeAt z.w k (stack_test (frame_setting sc) 29)
+        test_at = front z.w k (stack_test (frame_setting sc) 29) (its_entry locals stmts result) (front z.w k (stack_test (frame_setting sc) 29 ++ its_entry locals stmts result) (its_body stmts result) code_at)
 
         fails : z.p.stack < stack_words z.p.unit fs + words_of_frame (shapes z.p.unit) f → GoesOn W E Outer z debt h0 s0 (Stop cost2 (faulted StackOut) here)
         fails over =
@@ -206,7 +208,7 @@ module _ (runs : RunLaws) (compose : RunsCompose) (W E : Type 0) (Outer : W → 
             let sm = z.stack_small in
             let ws = z.sound.small in
             let sr = st.stack_room in
-            let r = (tested compose z.w z.sound straight jumps sc low (z.a.stack + z.p.stack) 29 k c d st.idle (λ q. absurd (omega (arith, q))) (λ q. absurd (omega (arith, q))) at_end st.stack_end (omega (arith, sr)) (omega (arith, sf, ws)) (omega (arith, sm)) test_at).0 (omega (arith, over)) in
+            let r = (tested compose z.w z.sound straight jumps (frame_setting sc) low (z.a.stack + z.p.stack) 29 k c d st.idle (λ q. absurd (omega (arith, q))) (λ q. absurd (omega (arith, q))) at_end st.stack_end (omega (arith, sr)) (omega (arith, sf, ws)) (omega (arith, sm)) test_at).0 (omega (arith, over)) in
             let way = on runs z.w l m 0 7 s0 (at_with k c d) (at_with (sc.exit StackOut) r.0 d) path (of runs z.w 7 _ _ r.2) in
             let le = way.high in (
               at_with (sc.exit StackOut) r.0 d,
@@ -225,16 +227,16 @@ module _ (runs : RunLaws) (compose : RunsCompose) (W E : Type 0) (Outer : W → 
             let sz = size locals stmts result e in
             let few = functions.few n f is in
             let on_frame = frame_on z.p.unit (frame_of locals) fs f is in
-            let t = (tested compose z.w z.sound straight jumps sc low (z.a.stack + z.p.stack) 29 k c d st.idle (λ q. absurd (omega (arith, q))) (λ q. absurd (omega (arith, q))) at_end st.stack_end (omega (arith, sr)) (omega (arith, sf, ws)) (omega (arith, sm)) test_at).1 (omega (arith, fine)) in
+            let t = (tested compose z.w z.sound straight jumps (frame_setting sc) low (z.a.stack + z.p.stack) 29 k c d st.idle (λ q. absurd (omega (arith, q))) (λ q. absurd (omega (arith, q))) at_end st.stack_end (omega (arith, sr)) (omega (arith, sf, ws)) (omega (arith, sm)) test_at).1 (omega (arith, fine)) in
             let c1 : Contents = t.0 in
-            let k1 : ℕ = k + length (stack_test sc 29) in
-            let entry_at = back z.w k (stack_test sc 29) (its_entry locals stmts result) (front z.w k (stack_test sc 29 ++ its_entry locals stmts result) (its_body stmts result) code_at) in
-            let fr = frames compose z.w z.sound straight jumps runs sc (low + sc.frame) (omega arith) (omega (arith, fine, sf, ws)) (omega (arith, fine, sf)) (λ x ge lt. z.ours x (inl (omega (arith, ge, gf, hf), omega (arith, lt, fine)))) (are_calling stmts) (is_cleared locals stmts result) (length f.params) (all_words (shapes z.p.unit) (map typed_of locals)) k1 t.0 d st.idle sz few (t.1.is (λ q. absurd (omega (arith, q)))) entry_at in
+            let k1 : ℕ = k + length (stack_test (frame_setting sc) 29) in
+            let entry_at = back z.w k (stack_test (frame_setting sc) 29) (its_entry locals stmts result) (front z.w k (stack_test (frame_setting sc) 29 ++ its_entry locals stmts result) (its_body stmts result) code_at) in
+            let fr = frames compose z.w z.sound straight jumps runs (frame_setting sc) (low + sc.frame) (omega arith) (omega (arith, fine, sf, ws)) (omega (arith, fine, sf)) (λ x ge lt. z.ours x (inl (omega (arith, ge, gf, hf), omega (arith, lt, fine)))) (are_calling stmts) (is_cleared locals stmts result) (length f.params) (all_words (shapes z.p.unit) (map typed_of locals)) k1 t.0 d st.idle sz few (t.1.is (λ q. absurd (omega (arith, q)))) entry_at in
             let c2 : Contents = fr.contents in
             let base : low + sc.frame - sc.frame ≡ low = omega arith in
-            let kb : ℕ = k + length (stack_test sc 29 ++ its_entry locals stmts result) in
-            let len : k1 + length (its_entry locals stmts result) ≡ kb = omega (arith, length-append (stack_test sc 29) (its_entry locals stmts result)) in
-            let body_at = back z.w k (stack_test sc 29 ++ its_entry locals stmts result) (its_body stmts result) code_at in
+            let kb : ℕ = k + length (stack_test (frame_setting sc) 29 ++ its_entry locals stmts result) in
+            let len : k1 + length (its_entry locals stmts result) ≡ kb = omega (arith, length-append (stack_test (frame_setting sc) 29) (its_entry locals stmts result)) in
+            let body_at = back z.w k (stack_test (frame_setting sc) 29 ++ its_entry locals stmts result) (its_body stmts result) code_at in
             let regs : (x : ℕ) → x ≢ 1 → x ≢ 2 → x ≢ 29 → fr.contents.regs x ≡ c.regs x = λ x n1 n2 n29. fr.made.regs x n1 n2 ∙ t.1.others x n1 n29 in
             let memory : (x : ℕ) → (x < low) ⊎ (low + sc.frame ≤ x) → fr.contents.memory x ≡ c.memory x = λ x side. fr.made.others x (subst (λ y. (x < y) ⊎ (low + sc.frame ≤ x)) (sym base) side) ∙ ap (λ m. m x) t.1.memory in
             let st2 = stands_in (with_state here (pushed (frame_of locals) (state_of gv hv hw fs))) fr.contents refl (typing.entered objects (state_of gv hv hw fs) n f locals stmts result args is e st.typed fits) refl refl refl (omega (arith, on_frame, fine))
@@ -270,13 +272,13 @@ module _ (runs : RunLaws) (compose : RunsCompose) (W E : Type 0) (Outer : W → 
     abbrev light_entry : List CDecl → CStmts → CExpr → List Inst
     light_entry locals stmts result = (if are_calling stmts then Sw 31 29 0 ∷ [] else []) ++ clear_code (is_cleared locals stmts result) (length locals) (length f.params)
 
-    light_code_is : (locals : List CDecl) (stmts : CStmts) (result : CExpr) → f.body ≡ code locals stmts result → sc.in_registers ≡ true → function_code sc (code_text W E Outer z).links f ≡ (stack_test sc 1 ++ light_entry locals stmts result) ++ its_body stmts result
+    light_code_is : (locals : List CDecl) (stmts : CStmts) (result : CExpr) → f.body ≡ code locals stmts result → sc.in_registers ≡ true → function_code sc (code_text W E Outer z).links f ≡ (stack_test (frame_setting sc) 1 ++ light_entry locals stmts result) ++ its_body stmts result
     light_code_is locals stmts result e form =
         ap (λ b. body_code sc (code_text W E Outer z).links (length f.params) b) e
-        ∙ ap (λ is. is ++ its_body stmts result) (cond-true sc.in_registers (register_entry sc (is_cleared locals stmts result) (length f.params) (length locals) (are_calling stmts)) (frame_entry sc (is_cleared locals stmts result) (length f.params) (all_words (shapes z.p.unit) (map typed_of locals)) (are_calling stmts)) form)
+        ∙ ap (λ is. is ++ its_body stmts result) (cond-true sc.in_registers (register_entry (frame_setting sc) (is_cleared locals stmts result) (length f.params) (length locals) (are_calling stmts)) (frame_entry (frame_setting sc) (is_cleared locals stmts result) (length f.params) (all_words (shapes z.p.unit) (map typed_of locals)) (are_calling stmts)) form)
 
-    light_test_some : 1 ≤ length (stack_test sc 1)
-    light_test_some = omega (arith, length-append (large_code sc) (end_code 1 (4 * sc.frame) ++ (Sltu 1 30 1 ∷ Beq 1 0 1 ∷ J (sc.exit StackOut) ∷ [])), length-append (end_code 1 (4 * sc.frame)) (Sltu 1 30 1 ∷ Beq 1 0 1 ∷ J (sc.exit StackOut) ∷ []))
+    light_test_some : 1 ≤ length (stack_test (frame_setting sc) 1)
+    light_test_some = omega (arith, length-append (large_code (frame_setting sc)) (end_code 1 (4 * sc.frame) ++ (Sltu 1 30 1 ∷ Beq 1 0 1 ∷ J (sc.exit StackOut) ∷ [])), length-append (end_code 1 (4 * sc.frame)) (Sltu 1 30 1 ∷ Beq 1 0 1 ∷ J (sc.exit StackOut) ∷ []))
 
     -- what is known of its variables
     record IsLight (locals : List CDecl) (stmts : CStmts) : Type 0 where
@@ -336,11 +338,11 @@ module _ (runs : RunLaws) (compose : RunsCompose) (W E : Type 0) (Outer : W → 
         cost2 : Cost
         cost2 = plus (plus cost (units 1)) (units 0)
 
-        code_at : CodeAt z.w k ((stack_test sc 1 ++ light_entry locals stmts result) ++ its_body stmts result)
+        code_at : CodeAt z.w k ((stack_test (frame_setting sc) 1 ++ light_entry locals stmts result) ++ its_body stmts result)
         code_at = subst (CodeAt z.w k) (light_code_is locals stmts result e form) there
 
-        test_at : CodeAt z.w k (stack_test sc 1)
-        test_at = front z.w k (stack_test sc 1) (light_entry locals stmts result) (front z.w k (stack_test sc 1 ++ light_entry locals stmts result) (its_body stmts result) code_at)
+        test_at : CodeAt z.w k (stack_test (frame_setting sc) 1)
+        test_at = front z.w k (stack_test (frame_setting sc) 1) (light_entry locals stmts result) (front z.w k (stack_test (frame_setting sc) 1 ++ light_entry locals stmts result) (its_body stmts result) code_at)
 
         fails : z.p.stack < stack_words z.p.unit fs + words_of_frame (shapes z.p.unit) f → GoesOn W E Outer z debt h0 s0 (Stop cost2 (faulted StackOut) here)
         fails over =
@@ -348,7 +350,7 @@ module _ (runs : RunLaws) (compose : RunsCompose) (W E : Type 0) (Outer : W → 
             let sm = z.stack_small in
             let ws = z.sound.small in
             let sr = st.stack_room in
-            let r = (tested compose z.w z.sound straight jumps sc low (z.a.stack + z.p.stack) 1 k c d st.idle (λ q. absurd (omega (arith, q))) (λ q. absurd (omega (arith, q))) at_end st.stack_end (omega (arith, sr)) (omega (arith, sf, ws)) (omega (arith, sm)) test_at).0 (omega (arith, over)) in
+            let r = (tested compose z.w z.sound straight jumps (frame_setting sc) low (z.a.stack + z.p.stack) 1 k c d st.idle (λ q. absurd (omega (arith, q))) (λ q. absurd (omega (arith, q))) at_end st.stack_end (omega (arith, sr)) (omega (arith, sf, ws)) (omega (arith, sm)) test_at).0 (omega (arith, over)) in
             let way = on runs z.w l m 0 7 s0 (at_with k c d) (at_with (sc.exit StackOut) r.0 d) path (of runs z.w 7 _ _ r.2) in
             let le = way.high in (
               at_with (sc.exit StackOut) r.0 d,
@@ -371,16 +373,16 @@ module _ (runs : RunLaws) (compose : RunsCompose) (W E : Type 0) (Outer : W → 
             let w2 = words_by_types (shapes z.p.unit) (map typed_of locals) in
             let fw = frame_words z.p.unit f in
             let on_frame = frame_on z.p.unit (frame_of locals) fs f is in
-            let t = (tested compose z.w z.sound straight jumps sc low (z.a.stack + z.p.stack) 1 k c d st.idle (λ q. absurd (omega (arith, q))) (λ q. absurd (omega (arith, q))) at_end st.stack_end (omega (arith, sr)) (omega (arith, sf, ws)) (omega (arith, sm)) test_at).1 (omega (arith, fine)) in
-            let k1 : ℕ = k + length (stack_test sc 1) in
-            let entry_at = back z.w k (stack_test sc 1) (light_entry locals stmts result) (front z.w k (stack_test sc 1 ++ light_entry locals stmts result) (its_body stmts result) code_at) in
+            let t = (tested compose z.w z.sound straight jumps (frame_setting sc) low (z.a.stack + z.p.stack) 1 k c d st.idle (λ q. absurd (omega (arith, q))) (λ q. absurd (omega (arith, q))) at_end st.stack_end (omega (arith, sr)) (omega (arith, sf, ws)) (omega (arith, sm)) test_at).1 (omega (arith, fine)) in
+            let k1 : ℕ = k + length (stack_test (frame_setting sc) 1) in
+            let entry_at = back z.w k (stack_test (frame_setting sc) 1) (light_entry locals stmts result) (front z.w k (stack_test (frame_setting sc) 1 ++ light_entry locals stmts result) (its_body stmts result) code_at) in
             let save = saves_light compose z.w straight (are_calling stmts) low k1 t.0 d st.idle (t.1.others 29 (λ q. absurd (omega (arith, q))) (λ q. absurd (omega (arith, q))) ∙ at_end) (omega (arith, fine, sf, fw)) ws (z.ours low (inl (omega (arith, gf, hf), omega (arith, fine, fw)))) (front z.w k1 (if are_calling stmts then Sw 31 29 0 ∷ [] else []) (clear_code (is_cleared locals stmts result) (length locals) (length f.params)) entry_at) in
             let k15 : ℕ = k1 + length (if are_calling stmts then Sw 31 29 0 ∷ [] else []) in
             let clear = clears compose z.w straight (is_cleared locals stmts result) (length locals) (length f.params) k15 save.0 d st.idle few (back z.w k1 (if are_calling stmts then Sw 31 29 0 ∷ [] else []) (clear_code (is_cleared locals stmts result) (length locals) (length f.params)) entry_at) in
             let c2 : Contents = clear.0 in
-            let kb : ℕ = k + length (stack_test sc 1 ++ light_entry locals stmts result) in
-            let len : k15 + length (clear_code (is_cleared locals stmts result) (length locals) (length f.params)) ≡ kb = omega (arith, length-append (stack_test sc 1) (light_entry locals stmts result), length-append (if are_calling stmts then Sw 31 29 0 ∷ [] else []) (clear_code (is_cleared locals stmts result) (length locals) (length f.params))) in
-            let body_at = back z.w k (stack_test sc 1 ++ light_entry locals stmts result) (its_body stmts result) code_at in
+            let kb : ℕ = k + length (stack_test (frame_setting sc) 1 ++ light_entry locals stmts result) in
+            let len : k15 + length (clear_code (is_cleared locals stmts result) (length locals) (length f.params)) ≡ kb = omega (arith, length-append (stack_test (frame_setting sc) 1) (light_entry locals stmts result), length-append (if are_calling stmts then Sw 31 29 0 ∷ [] else []) (clear_code (is_cleared locals stmts result) (length locals) (length f.params))) in
+            let body_at = back z.w k (stack_test (frame_setting sc) 1 ++ light_entry locals stmts result) (its_body stmts result) code_at in
             let regs : (x : ℕ) → x ≢ 1 → (x < 20 + length f.params) ⊎ (20 + length f.params + length locals ≤ x) → clear.0.regs x ≡ c.regs x = λ x n1 side. clear.1.others x side ∙ ap (λ r. r x) save.1.regs ∙ t.1.others x n1 n1 in
             let high : (x : ℕ) → 28 ≤ x → clear.0.regs x ≡ c.regs x = λ x le. regs x (λ q. absurd (omega (arith, q, le))) (inr (omega (arith, le, few))) in
             let memory : (x : ℕ) → x ≢ low → clear.0.memory x ≡ c.memory x = λ x ne. ap (λ m. m x) clear.1.memory ∙ save.1.others x ne ∙ ap (λ m. m x) t.1.memory in

@@ -5,7 +5,7 @@ use Rattle.std.proofs.lemmas.Bool.{cases_Bool, cond-true, cond-false, leb-true}
 use Rattle.std.proofs.lemmas.List.{length-map}
 use Rattle.mips_table.specs.declared.inst.Inst.{Inst}
 use Rattle.mips_table.specs.declared.inst.Inst.TheVariants.{Addiu, Beq, Bne, J, Jal, Jr, Lw, Sltu, Sw}
-use Rattle.c0_tree.specs.Tree.{CStmt, assign, call, new, choice, loop, CStmts, done, next, CBody, code, asm, CDecl, CFunction}
+use Rattle.c0_tree.specs.Tree.{CStmt, assign, call, new, choice, loop, CStmts, done, next, CBody, code, asm, CFunction}
 use Rattle.c0_meaning.specs.Ty.{ty_of}
 use Rattle.c0_meaning.specs.Env.{typed_of}
 use Rattle.c0_meaning.specs.Words.{words, all_words}
@@ -13,11 +13,13 @@ use Rattle.c0_meaning.specs.Operators.{StackOut}
 use Rattle.c0_meaning.specs.Limits.{nodes_of, words_held}
 use Rattle.c0_tree.specs.Size.{body_nodes}
 use Rattle.c0_asm_body.specs.Code.{asm_code, arguments_code, instruction_of}
+use Rattle.c0_typed.specs.Leaf.{are_calling}
 use Rattle.c0_expr_code.specs.Scope.{Scope}
-use Rattle.c0_expr_code.specs.Code.{frame_back, register_of_variable, constant_code, access_code, value_code}
+use Rattle.c0_expr_code.specs.FrameSetting.{FrameSetting, frame_back, frame_setting}
+use Rattle.c0_expr_code.specs.Code.{register_of_variable, constant_code, access_code, value_code}
 use Rattle.c0_expr_code.specs.Test.{test_code}
 use Rattle.c0_stmt_code.specs.Live.{is_cleared}
-use Rattle.c0_stmt_code.specs.Code.{Links, callee_index, answer_code, args_code, otherwise, otherwise_at, turn_code, stmt_code, stmts_code, are_calling, frame_slot, end_code, large_code, stack_test, save_code, restore_code, params_code, zeros_code, zeros_loop, locals_code, clear_code, frame_entry, frame_return, register_entry, register_return, entry_code, exit_code, return_code, body_code as code_of_body, zero_code, clear_one}
+use Rattle.c0_stmt_code.specs.Code.{Links, callee_index, answer_code, args_code, otherwise, otherwise_at, turn_code, stmt_code, stmts_code, frame_slot, end_code, large_code, stack_test, save_code, restore_code, params_code, zeros_code, zeros_loop, locals_code, clear_code, frame_entry, frame_return, register_entry, register_return, entry_code, exit_code, return_code, body_code as code_of_body, zero_code, clear_one}
 use Rattle.c0_stmt_code.proofs.PremisesFromBelow.{LengthsFit}
 use Rattle.c0_stmt_code.proofs.ShortStatements.{access_length, stmts_length}
 
@@ -67,9 +69,9 @@ module _ (sc : Scope) (x y : Links) where
       omega (
         arith,
         e,
-        length-append (entry_code sc (is_cleared locals stmts answer) params locals (are_calling stmts)) (stmts_code sc x stmts ++ return_code sc (are_calling stmts) answer),
+        length-append (entry_code (frame_setting sc) (is_cleared locals stmts answer) params (length locals) (all_words sc.env.structs (map typed_of locals)) (are_calling stmts)) (stmts_code sc x stmts ++ return_code sc (are_calling stmts) answer),
         length-append (stmts_code sc x stmts) (return_code sc (are_calling stmts) answer),
-        length-append (entry_code sc (is_cleared locals stmts answer) params locals (are_calling stmts)) (stmts_code sc y stmts ++ return_code sc (are_calling stmts) answer),
+        length-append (entry_code (frame_setting sc) (is_cleared locals stmts answer) params (length locals) (all_words sc.env.structs (map typed_of locals)) (are_calling stmts)) (stmts_code sc y stmts ++ return_code sc (are_calling stmts) answer),
         length-append (stmts_code sc y stmts) (return_code sc (are_calling stmts) answer),
       )
   body_same params (asm text span words) = refl
@@ -79,9 +81,12 @@ pub function_same : (sc : Scope) (x y : Links) (f : CFunction) → length (code_
 function_same sc x y f = body_same sc x y (length f.params) f.body
 
 module _ (sc : Scope) (x : Links) (fit : LengthsFit sc) where
+  abbrev st : FrameSetting
+  st = frame_setting sc
+
   -- code on a word of the frame
-  framed : (f : ℕ → ℕ → Inst) (r i : ℕ) → length (access_code f r (frame_slot sc i)) ≤ 3
-  framed f r i = access_length f r (frame_slot sc i)
+  framed : (f : ℕ → ℕ → Inst) (r i : ℕ) → length (access_code f r (frame_slot st i)) ≤ 3
+  framed f r i = access_length f r (frame_slot st i)
 
   end_length : (d n : ℕ) → length (end_code d n) ≤ 3
   end_length d n = access_length (λ b k. Addiu d b k) d (record { code = []; base = 29; displacement = n % 2 ^ 32 })
@@ -90,47 +95,47 @@ module _ (sc : Scope) (x : Links) (fit : LengthsFit sc) where
   large_length true k = omega arith
   large_length false k = omega arith
 
-  test_length : (d : ℕ) → length (stack_test sc d) ≤ 7
+  test_length : (d : ℕ) → length (stack_test st d) ≤ 7
   test_length d =
-      let l = large_length (nat_lt 262144 sc.frame) (sc.exit StackOut) in
-      let e = end_length d (4 * sc.frame) in
-      omega (arith, l, e, length-append (large_code sc) (end_code d (4 * sc.frame) ++ (Sltu 1 30 d ∷ Beq 1 0 1 ∷ J (sc.exit StackOut) ∷ [])), length-append (end_code d (4 * sc.frame)) (Sltu 1 30 d ∷ Beq 1 0 1 ∷ J (sc.exit StackOut) ∷ []))
+      let l = large_length (nat_lt 262144 st.frame) (st.exit StackOut) in
+      let e = end_length d (4 * st.frame) in
+      omega (arith, l, e, length-append (large_code st) (end_code d (4 * st.frame) ++ (Sltu 1 30 d ∷ Beq 1 0 1 ∷ J (st.exit StackOut) ∷ [])), length-append (end_code d (4 * st.frame)) (Sltu 1 30 d ∷ Beq 1 0 1 ∷ J (st.exit StackOut) ∷ []))
 
-  save_length : (b : Bool) → length (save_code sc b) ≤ 3
+  save_length : (b : Bool) → length (save_code st b) ≤ 3
   save_length true = framed (λ b k. Sw 31 b k) 1 0
   save_length false = omega arith
 
-  restore_length : (b : Bool) → length (restore_code sc b) ≤ 3
+  restore_length : (b : Bool) → length (restore_code st b) ≤ 3
   restore_length true = framed (λ b k. Lw 31 b k) 1 0
   restore_length false = omega arith
 
-  params_length : (n i : ℕ) → length (params_code sc n i) ≤ 3 * n
+  params_length : (n i : ℕ) → length (params_code st n i) ≤ 3 * n
   params_length zero i = omega arith
   params_length (suc n) i =
       let a = framed (λ b k. Sw (register_of_variable i) b k) 1 (3 + i) in
       let r = params_length n (suc i) in
-      omega (arith, a, r, length-append (access_code (λ b k. Sw (register_of_variable i) b k) 1 (frame_slot sc (3 + i))) (params_code sc n (suc i)))
+      omega (arith, a, r, length-append (access_code (λ b k. Sw (register_of_variable i) b k) 1 (frame_slot st (3 + i))) (params_code st n (suc i)))
 
-  zero_length : (b : Bool) (i : ℕ) → length (zero_code sc b i) ≤ 3
+  zero_length : (b : Bool) (i : ℕ) → length (zero_code st b i) ≤ 3
   zero_length true i = framed (λ b k. Sw 0 b k) 1 (3 + i)
   zero_length false i = omega arith
 
-  zeros_length : (cleared : ℕ → Bool) (n i : ℕ) → length (zeros_code sc cleared n i) ≤ 3 * n
+  zeros_length : (cleared : ℕ → Bool) (n i : ℕ) → length (zeros_code st cleared n i) ≤ 3 * n
   zeros_length cleared zero i = omega arith
   zeros_length cleared (suc n) i =
       let a = zero_length (cleared i) i in
       let r = zeros_length cleared n (suc i) in
-      omega (arith, a, r, length-append (zero_code sc (cleared i) i) (zeros_code sc cleared n (suc i)))
+      omega (arith, a, r, length-append (zero_code st (cleared i) i) (zeros_code st cleared n (suc i)))
 
-  loop_length : (i : ℕ) → length (zeros_loop sc i) ≤ 6
+  loop_length : (i : ℕ) → length (zeros_loop st i) ≤ 6
   loop_length i =
       let a = framed (λ b k. Addiu 2 b k) 2 (3 + i) in
-      omega (arith, a, length-append (access_code (λ b k. Addiu 2 b k) 2 (frame_slot sc (3 + i))) (Sw 0 2 0 ∷ Addiu 2 2 4 ∷ Bne 2 29 65533 ∷ []))
+      omega (arith, a, length-append (access_code (λ b k. Addiu 2 b k) 2 (frame_slot st (3 + i))) (Sw 0 2 0 ∷ Addiu 2 2 4 ∷ Bne 2 29 65533 ∷ []))
 
-  locals_length : (cleared : ℕ → Bool) (n i : ℕ) → length (locals_code sc cleared n i) ≤ 24
+  locals_length : (cleared : ℕ → Bool) (n i : ℕ) → length (locals_code st cleared n i) ≤ 24
   locals_length cleared n i = elim (cases_Bool (nat_le n 8)) [
-    | inl e ↦ let same = ap (λ (is : List Inst). length is) (cond-true (nat_le n 8) (zeros_code sc cleared n i) (zeros_loop sc i) e) in let z = zeros_length cleared n i in let few : n ≤ 8 = leb-true n 8 e in omega (arith, same, z, few)
-    | inr e ↦ let same = ap (λ (is : List Inst). length is) (cond-false (nat_le n 8) (zeros_code sc cleared n i) (zeros_loop sc i) e) in let z = loop_length i in omega (arith, same, z)
+    | inl e ↦ let same = ap (λ (is : List Inst). length is) (cond-true (nat_le n 8) (zeros_code st cleared n i) (zeros_loop st i) e) in let z = zeros_length cleared n i in let few : n ≤ 8 = leb-true n 8 e in omega (arith, same, z, few)
+    | inr e ↦ let same = ap (λ (is : List Inst). length is) (cond-false (nat_le n 8) (zeros_code st cleared n i) (zeros_loop st i) e) in let z = loop_length i in omega (arith, same, z)
   ]
 
   one_length : (b : Bool) (i : ℕ) → length (clear_one b i) ≤ 1
@@ -144,7 +149,7 @@ module _ (sc : Scope) (x : Links) (fit : LengthsFit sc) where
       let r = clear_length cleared n (suc i) in
       omega (arith, a, r, length-append (clear_one (cleared i) i) (clear_code cleared n (suc i)))
 
-  frame_entry_length : (cleared : ℕ → Bool) (params words : ℕ) (b : Bool) → length (frame_entry sc cleared params words b) ≤ 34 + 3 * params
+  frame_entry_length : (cleared : ℕ → Bool) (params words : ℕ) (b : Bool) → length (frame_entry st cleared params words b) ≤ 34 + 3 * params
   frame_entry_length cleared params words b =
       let t = test_length 29 in
       let s = save_length b in
@@ -156,50 +161,50 @@ module _ (sc : Scope) (x : Links) (fit : LengthsFit sc) where
         s,
         p,
         l,
-        length-append (stack_test sc 29) (save_code sc b ++ (params_code sc params 0 ++ locals_code sc cleared words params)),
-        length-append (save_code sc b) (params_code sc params 0 ++ locals_code sc cleared words params),
-        length-append (params_code sc params 0) (locals_code sc cleared words params),
+        length-append (stack_test st 29) (save_code st b ++ (params_code st params 0 ++ locals_code st cleared words params)),
+        length-append (save_code st b) (params_code st params 0 ++ locals_code st cleared words params),
+        length-append (params_code st params 0) (locals_code st cleared words params),
       )
 
-  register_entry_length : (cleared : ℕ → Bool) (params locals : ℕ) (b : Bool) → length (register_entry sc cleared params locals b) ≤ 8 + locals
+  register_entry_length : (cleared : ℕ → Bool) (params locals : ℕ) (b : Bool) → length (register_entry st cleared params locals b) ≤ 8 + locals
   register_entry_length cleared params locals true =
       let t = test_length 1 in
       let c = clear_length cleared locals params in
-      omega (arith, t, c, length-append (stack_test sc 1) ((Sw 31 29 0 ∷ []) ++ clear_code cleared locals params), length-append (Sw 31 29 0 ∷ []) (clear_code cleared locals params))
+      omega (arith, t, c, length-append (stack_test st 1) ((Sw 31 29 0 ∷ []) ++ clear_code cleared locals params), length-append (Sw 31 29 0 ∷ []) (clear_code cleared locals params))
   register_entry_length cleared params locals false =
       let t = test_length 1 in
       let c = clear_length cleared locals params in
-      omega (arith, t, c, length-append (stack_test sc 1) ([] ++ clear_code cleared locals params))
+      omega (arith, t, c, length-append (stack_test st 1) ([] ++ clear_code cleared locals params))
 
-  entry_length : (cleared : ℕ → Bool) (params : ℕ) (locals : List CDecl) (b : Bool) → length (entry_code sc cleared params locals b) ≤ 34 + 3 * params + length locals
-  entry_length cleared params locals b =
-      by_form sc.in_registers
+  entry_length : (cleared : ℕ → Bool) (params locals words : ℕ) (b : Bool) → length (entry_code st cleared params locals words b) ≤ 34 + 3 * params + locals
+  entry_length cleared params locals words b =
+      by_form st.in_registers
     where
-      by_form : (c : Bool) → length (if c then register_entry sc cleared params (length locals) b else frame_entry sc cleared params (all_words sc.env.structs (map typed_of locals)) b) ≤ 34 + 3 * params + length locals
-      by_form true = let r = register_entry_length cleared params (length locals) b in omega (arith, r)
-      by_form false = let r = frame_entry_length cleared params (all_words sc.env.structs (map typed_of locals)) b in omega (arith, r)
+      by_form : (c : Bool) → length (if c then register_entry st cleared params locals b else frame_entry st cleared params words b) ≤ 34 + 3 * params + locals
+      by_form true = let r = register_entry_length cleared params locals b in omega (arith, r)
+      by_form false = let r = frame_entry_length cleared params words b in omega (arith, r)
 
   register_return_length : (b : Bool) → length (register_return b) ≤ 2
   register_return_length true = omega arith
   register_return_length false = omega arith
 
-  frame_return_length : (b : Bool) → length (frame_return sc b) ≤ 7
+  frame_return_length : (b : Bool) → length (frame_return st b) ≤ 7
   frame_return_length b =
       let r = restore_length b in
-      let e = end_length 29 (frame_back sc) in
-      omega (arith, r, e, length-append (restore_code sc b) (end_code 29 (frame_back sc) ++ (Jr 31 ∷ [])), length-append (end_code 29 (frame_back sc)) (Jr 31 ∷ []))
+      let e = end_length 29 (frame_back st) in
+      omega (arith, r, e, length-append (restore_code st b) (end_code 29 (frame_back st) ++ (Jr 31 ∷ [])), length-append (end_code 29 (frame_back st)) (Jr 31 ∷ []))
 
-  exit_length : (b : Bool) → length (exit_code sc b) ≤ 7
+  exit_length : (b : Bool) → length (exit_code st b) ≤ 7
   exit_length b =
-      by_form sc.in_registers
+      by_form st.in_registers
     where
-      by_form : (c : Bool) → length (if c then register_return b else frame_return sc b) ≤ 7
+      by_form : (c : Bool) → length (if c then register_return b else frame_return st b) ≤ 7
       by_form true = let r = register_return_length b in omega (arith, r)
       by_form false = frame_return_length b
 
   body_length : (params : ℕ) (b : CBody) → length (code_of_body sc x params b) ≤ 32 * (1 + params + body_nodes (length (words_held b)) b)
   body_length params (code locals stmts answer) =
-      let e = entry_length (is_cleared locals stmts answer) params locals (are_calling stmts) in
+      let e = entry_length (is_cleared locals stmts answer) params (length locals) (all_words sc.env.structs (map typed_of locals)) (are_calling stmts) in
       let s = stmts_length sc x fit stmts in
       let v = fit.value answer 2 8 in
       let some = fit.value_some answer 2 8 in
@@ -211,14 +216,14 @@ module _ (sc : Scope) (x : Links) (fit : LengthsFit sc) where
         v,
         some,
         r,
-        length-append (entry_code sc (is_cleared locals stmts answer) params locals (are_calling stmts)) (stmts_code sc x stmts ++ return_code sc (are_calling stmts) answer),
+        length-append (entry_code st (is_cleared locals stmts answer) params (length locals) (all_words sc.env.structs (map typed_of locals)) (are_calling stmts)) (stmts_code sc x stmts ++ return_code sc (are_calling stmts) answer),
         length-append (stmts_code sc x stmts) (return_code sc (are_calling stmts) answer),
-        length-append (value_code sc answer 2 8) (exit_code sc (are_calling stmts)),
+        length-append (value_code sc answer 2 8) (exit_code st (are_calling stmts)),
       )
   body_length params (asm text span words) =
       let t = test_length 1 in
       let m = length-map words instruction_of in
-      omega (arith, t, m, length-append (stack_test sc 1) (asm_code params words ++ (Jr 31 ∷ [])), length-append (asm_code params words) (Jr 31 ∷ []), length-append (arguments_code params) (map instruction_of words))
+      omega (arith, t, m, length-append (stack_test st 1) (asm_code params words ++ (Jr 31 ∷ [])), length-append (asm_code params words) (Jr 31 ∷ []), length-append (arguments_code params) (map instruction_of words))
 
 -- the code of a function has at most 32 words a node
 pub function_short : (sc : Scope) (x : Links) → LengthsFit sc → (f : CFunction) → length (code_of_body sc x (length f.params) f.body) ≤ 32 * nodes_of f

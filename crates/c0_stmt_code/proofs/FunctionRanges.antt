@@ -10,7 +10,7 @@ use Rattle.mips_table.specs.Encoding.{InRange}
 use Rattle.c0_tree.specs.declared.tree.Kind.{Kind}
 use Rattle.c0_tree.specs.declared.tree.Kind.TheVariants.{Unresolved, Struct, Field, Global, Local, Function, Primitive}
 use Rattle.c0_tree.specs.Size.{need}
-use Rattle.c0_tree.specs.Tree.{CExpr, CStmt, assign, call, new, choice, loop, CStmts, done, next, CBody, code, asm, CDecl}
+use Rattle.c0_tree.specs.Tree.{CExpr, CStmt, assign, call, new, choice, loop, CStmts, done, next, CBody, code, asm}
 use Rattle.c0_meaning.specs.Ty.{ty_of}
 use Rattle.c0_meaning.specs.Env.{typed_of}
 use Rattle.c0_meaning.specs.Words.{words, all_words}
@@ -18,14 +18,15 @@ use Rattle.c0_meaning.specs.Operators.{StackOut}
 use Rattle.c0_meaning.specs.Asm.{are_allowed_words}
 use Rattle.c0_asm_body.specs.Code.{argument_code, arguments_code, asm_code, asm_body_code}
 use Rattle.c0_asm_body.specs.Laws.{AreEncoded}
+use Rattle.c0_typed.specs.Leaf.{are_calling}
 use Rattle.c0_expr_code.specs.Laws.{CodesInRange, HasNearExits}
 use Rattle.c0_expr_code.specs.Scope.{Scope}
-use Rattle.c0_expr_code.specs.Code.{AddressingMode, is_near, low, high, frame_back, register_of_variable, constant_code, access_code, store_code, operand_code, operand_register, made, value_code}
+use Rattle.c0_expr_code.specs.FrameSetting.{FrameSetting, frame_back, frame_setting}
+use Rattle.c0_expr_code.specs.Code.{AddressingMode, is_near, low, high, register_of_variable, constant_code, access_code, store_code, operand_code, operand_register, made, value_code}
 use Rattle.c0_expr_code.specs.Test.{test_code}
 use Rattle.c0_stmt_code.specs.Live.{is_cleared}
-use Rattle.c0_stmt_code.specs.Code.{Links, callee_index, skip, stored_code, answer_code, assigned_code, args_code, otherwise, otherwise_at, back, turn_code, stmt_code, stmts_code, are_calling, frame_slot, end_code, large_code, stack_test, save_code, restore_code, params_code, zeros_code, zeros_loop, locals_code, clear_code, frame_entry, frame_return, register_entry, register_return, entry_code, exit_code, return_code, body_code as code_of_body, zero_code, clear_one}
+use Rattle.c0_stmt_code.specs.Code.{Links, callee_index, skip, stored_code, answer_code, assigned_code, args_code, otherwise, otherwise_at, back, turn_code, stmt_code, stmts_code, frame_slot, end_code, large_code, stack_test, save_code, restore_code, params_code, zeros_code, zeros_loop, locals_code, clear_code, frame_entry, frame_return, register_entry, register_return, entry_code, exit_code, return_code, body_code as code_of_body, zero_code, clear_one}
 use Rattle.c0_stmt_code.specs.Emit.{IsEmittable, AreEmittable, IsEmittableBody}
-use Rattle.c0_stmt_code.specs.EmitLeaf.{CanStand}
 use Rattle.c0_stmt_code.specs.Ranges.{AreNear}
 
 abbrev Fine : List Inst → Type 0
@@ -82,10 +83,10 @@ module _ (sc : Scope) (x : Links) (codes : CodesInRange) (exits : HasNearExits s
       both (operand_code (made sc v) 8) (store_code (operand_register (made sc v) 8) 9 ((made sc p).place 9)) (codes.operand sc exits v 8 (omega (arith, g)))
       (codes.store sc exits p (operand_register (made sc v) 8) 9 (codes.register sc exits v 8 (omega (arith, g))) (omega (arith, h)))
 
-  args : (es : List CExpr) (i : ℕ) → EachOf (CanStand sc.env 12) es → Fine (args_code sc es i)
+  args : (es : List CExpr) (i : ℕ) → EachOf (λ e. need e ≤ 12) es → Fine (args_code sc es i)
   args [] i h = none
   args (e ∷ es) i h =
-      both (value_code sc e (register_of_variable i) 8) (args_code sc es (suc i)) (codes.value sc exits e (register_of_variable i) 8 (omega arith) (let r = (All-head (CanStand sc.env 12) e es h).room in omega (arith, r))) (args es (suc i) (All-tail (CanStand sc.env 12) e es h))
+      both (value_code sc e (register_of_variable i) 8) (args_code sc es (suc i)) (codes.value sc exits e (register_of_variable i) 8 (omega arith) (let r = All-head (λ e. need e ≤ 12) e es h in omega (arith, r))) (args es (suc i) (All-tail (λ e. need e ≤ 12) e es h))
 
   callees : (k : Kind) (n : ℕ) → callee_index x k n < 2 ^ 26
   callees Unresolved n = omega arith
@@ -101,96 +102,98 @@ module _ (sc : Scope) (x : Links) (codes : CodesInRange) (exits : HasNearExits s
   others (next s rest) is h = front (skip (length is)) is (omega arith, omega arith, omega arith) h
 
   mutual
-    statement : (t : CStmt) → IsEmittable sc.env t → Fine (stmt_code sc x t)
+    statement : (t : CStmt) → IsEmittable t → Fine (stmt_code sc x t)
     statement (assign s p v) h =
-        let hp = h.0.room in
-        let hv = h.1.room in
+        let hp = h.0 in
+        let hv = h.1 in
         assigned p v (made sc p).stands hp hv (λ y e. stands p y (omega (arith, hp)) e)
     statement (call s p cs f as_) h =
-        both (args_code sc as_ 0) (Jal (callee_index x f.kind f.number) ∷ answer_code sc p) (args as_ 0 h.1) (front (Jal (callee_index x f.kind f.number)) (answer_code sc p) (callees f.kind f.number) (answer p h.0.room))
+        both (args_code sc as_ 0) (Jal (callee_index x f.kind f.number) ∷ answer_code sc p) (args as_ 0 h.1) (front (Jal (callee_index x f.kind f.number)) (answer_code sc p) (callees f.kind f.number) (answer p h.0))
     statement (new s p t ts) h =
-        both (constant_code 2 (words sc.env.structs (ty_of t) % 2 ^ 32)) (Jal x.new_object ∷ answer_code sc p) (constants 2 (words sc.env.structs (ty_of t) % 2 ^ 32) (omega arith)) (front (Jal x.new_object) (answer_code sc p) near.new_object (answer p h.0.room))
+        both (constant_code 2 (words sc.env.structs (ty_of t) % 2 ^ 32)) (Jal x.new_object ∷ answer_code sc p) (constants 2 (words sc.env.structs (ty_of t) % 2 ^ 32) (omega arith)) (front (Jal x.new_object) (answer_code sc p) near.new_object (answer p h))
     statement (choice s t a b) h =
-        let r = h.0.room in
+        let r = h.0 in
         both (test_code sc t false ((length (stmts_code sc x a) + otherwise_at b) % 2 ^ 16) 8) (stmts_code sc x a ++ otherwise b (stmts_code sc x b)) (codes.test sc exits t false ((length (stmts_code sc x a) + otherwise_at b) % 2 ^ 16) 8 (omega arith) (omega (arith, r)))
         (both (stmts_code sc x a) (otherwise b (stmts_code sc x b)) (statements a h.1) (others b (stmts_code sc x b) (statements b h.2)))
     statement (loop s t b) h =
-        let r = h.0.room in
+        let r = h.0 in
         front (skip (length (stmts_code sc x b))) (stmts_code sc x b ++ turn_code sc t (stmts_code sc x b)) (omega arith, omega arith, omega arith)
         (both (stmts_code sc x b) (turn_code sc t (stmts_code sc x b)) (statements b h.1) (codes.test sc exits t true (back sc t (stmts_code sc x b)) 8 (omega arith) (omega (arith, r))))
 
-    statements : (ss : CStmts) → AreEmittable sc.env ss → Fine (stmts_code sc x ss)
+    statements : (ss : CStmts) → AreEmittable ss → Fine (stmts_code sc x ss)
     statements done h = none
     statements (next s rest) h = both (stmt_code sc x s) (stmts_code sc x rest) (statement s h.0) (statements rest h.1)
 
+  abbrev st : FrameSetting
+  st = frame_setting sc
+
   -- code on a word of the frame
-  framed : (f : ℕ → ℕ → Inst) (r i : ℕ) → r < 32 → ((b k : ℕ) → b < 32 → k < 2 ^ 16 → InRange (f b k)) → Fine (access_code f r (frame_slot sc i))
-  framed f r i h g = accesses f r (frame_slot sc i) h (omega arith) none g
+  framed : (f : ℕ → ℕ → Inst) (r i : ℕ) → r < 32 → ((b k : ℕ) → b < 32 → k < 2 ^ 16 → InRange (f b k)) → Fine (access_code f r (frame_slot st i))
+  framed f r i h g = accesses f r (frame_slot st i) h (omega arith) none g
 
   ends : (d n : ℕ) → d < 32 → Fine (end_code d n)
   ends d n h = accesses (λ b k. Addiu d b k) d (record { code = []; base = 29; displacement = n % 2 ^ 32 }) h (omega arith) none (λ b k l m. (h, l, m))
 
-  tests_stack : (d : ℕ) → d < 32 → Fine (stack_test sc d)
+  tests_stack : (d : ℕ) → d < 32 → Fine (stack_test st d)
   tests_stack d h =
-      both (large_code sc) (end_code d (4 * sc.frame) ++ (Sltu 1 30 d ∷ Beq 1 0 1 ∷ J (sc.exit StackOut) ∷ [])) (either (nat_lt 262144 sc.frame) (J (sc.exit StackOut) ∷ []) [] (front (J (sc.exit StackOut)) [] (exits StackOut) none) none)
-      (both (end_code d (4 * sc.frame)) (Sltu 1 30 d ∷ Beq 1 0 1 ∷ J (sc.exit StackOut) ∷ []) (ends d (4 * sc.frame) h)
-      (front (Sltu 1 30 d) (Beq 1 0 1 ∷ J (sc.exit StackOut) ∷ []) (omega arith, omega arith, h) (front (Beq 1 0 1) (J (sc.exit StackOut) ∷ []) (omega arith, omega arith, omega arith) (front (J (sc.exit StackOut)) [] (exits StackOut) none))))
+      both (large_code st) (end_code d (4 * st.frame) ++ (Sltu 1 30 d ∷ Beq 1 0 1 ∷ J (st.exit StackOut) ∷ [])) (either (nat_lt 262144 st.frame) (J (st.exit StackOut) ∷ []) [] (front (J (st.exit StackOut)) [] (exits StackOut) none) none)
+      (both (end_code d (4 * st.frame)) (Sltu 1 30 d ∷ Beq 1 0 1 ∷ J (st.exit StackOut) ∷ []) (ends d (4 * st.frame) h)
+      (front (Sltu 1 30 d) (Beq 1 0 1 ∷ J (st.exit StackOut) ∷ []) (omega arith, omega arith, h) (front (Beq 1 0 1) (J (st.exit StackOut) ∷ []) (omega arith, omega arith, omega arith) (front (J (st.exit StackOut)) [] (exits StackOut) none))))
 
-  saves : (b : Bool) → Fine (save_code sc b)
+  saves : (b : Bool) → Fine (save_code st b)
   saves true = framed (λ b k. Sw 31 b k) 1 0 (omega arith) (λ b k l m. (omega arith, l, m))
   saves false = none
 
-  restores : (b : Bool) → Fine (restore_code sc b)
+  restores : (b : Bool) → Fine (restore_code st b)
   restores true = framed (λ b k. Lw 31 b k) 1 0 (omega arith) (λ b k l m. (omega arith, l, m))
   restores false = none
 
-  params_stored : (n i : ℕ) → Fine (params_code sc n i)
+  params_stored : (n i : ℕ) → Fine (params_code st n i)
   params_stored zero i = none
   params_stored (suc n) i =
-      both (access_code (λ b k. Sw (register_of_variable i) b k) 1 (frame_slot sc (3 + i))) (params_code sc n (suc i)) (framed (λ b k. Sw (register_of_variable i) b k) 1 (3 + i) (omega arith) (λ b k l m. (omega arith, l, m))) (params_stored n (suc i))
+      both (access_code (λ b k. Sw (register_of_variable i) b k) 1 (frame_slot st (3 + i))) (params_code st n (suc i)) (framed (λ b k. Sw (register_of_variable i) b k) 1 (3 + i) (omega arith) (λ b k l m. (omega arith, l, m))) (params_stored n (suc i))
 
-  zero_stored : (b : Bool) (i : ℕ) → Fine (zero_code sc b i)
-  zero_stored b i = either b (access_code (λ b k. Sw 0 b k) 1 (frame_slot sc (3 + i))) [] (framed (λ b k. Sw 0 b k) 1 (3 + i) (omega arith) (λ b k l m. (omega arith, l, m))) none
+  zero_stored : (b : Bool) (i : ℕ) → Fine (zero_code st b i)
+  zero_stored b i = either b (access_code (λ b k. Sw 0 b k) 1 (frame_slot st (3 + i))) [] (framed (λ b k. Sw 0 b k) 1 (3 + i) (omega arith) (λ b k l m. (omega arith, l, m))) none
 
-  zeros_stored : (cleared : ℕ → Bool) (n i : ℕ) → Fine (zeros_code sc cleared n i)
+  zeros_stored : (cleared : ℕ → Bool) (n i : ℕ) → Fine (zeros_code st cleared n i)
   zeros_stored cleared zero i = none
-  zeros_stored cleared (suc n) i = both (zero_code sc (cleared i) i) (zeros_code sc cleared n (suc i)) (zero_stored (cleared i) i) (zeros_stored cleared n (suc i))
+  zeros_stored cleared (suc n) i = both (zero_code st (cleared i) i) (zeros_code st cleared n (suc i)) (zero_stored (cleared i) i) (zeros_stored cleared n (suc i))
 
-  zeros_looped : (i : ℕ) → Fine (zeros_loop sc i)
+  zeros_looped : (i : ℕ) → Fine (zeros_loop st i)
   zeros_looped i =
-      both (access_code (λ b k. Addiu 2 b k) 2 (frame_slot sc (3 + i))) (Sw 0 2 0 ∷ Addiu 2 2 4 ∷ Bne 2 29 65533 ∷ []) (framed (λ b k. Addiu 2 b k) 2 (3 + i) (omega arith) (λ b k l m. (omega arith, l, m)))
+      both (access_code (λ b k. Addiu 2 b k) 2 (frame_slot st (3 + i))) (Sw 0 2 0 ∷ Addiu 2 2 4 ∷ Bne 2 29 65533 ∷ []) (framed (λ b k. Addiu 2 b k) 2 (3 + i) (omega arith) (λ b k l m. (omega arith, l, m)))
       (front (Sw 0 2 0) (Addiu 2 2 4 ∷ Bne 2 29 65533 ∷ []) (omega arith, omega arith, omega arith) (front (Addiu 2 2 4) (Bne 2 29 65533 ∷ []) (omega arith, omega arith, omega arith) (front (Bne 2 29 65533) [] (omega arith, omega arith, omega arith) none)))
 
   clears : (cleared : ℕ → Bool) (n i : ℕ) → Fine (clear_code cleared n i)
   clears cleared zero i = none
   clears cleared (suc n) i = both (clear_one (cleared i) i) (clear_code cleared n (suc i)) (either (cleared i) (Addu (register_of_variable i) 0 0 ∷ []) [] (front (Addu (register_of_variable i) 0 0) [] (omega arith, omega arith, omega arith) none) none) (clears cleared n (suc i))
 
-  frame_begins : (cleared : ℕ → Bool) (params words : ℕ) (b : Bool) → Fine (frame_entry sc cleared params words b)
+  frame_begins : (cleared : ℕ → Bool) (params words : ℕ) (b : Bool) → Fine (frame_entry st cleared params words b)
   frame_begins cleared params words b =
-      both (stack_test sc 29) (save_code sc b ++ (params_code sc params 0 ++ locals_code sc cleared words params)) (tests_stack 29 (omega arith))
-      (both (save_code sc b) (params_code sc params 0 ++ locals_code sc cleared words params) (saves b)
-      (both (params_code sc params 0) (locals_code sc cleared words params) (params_stored params 0) (either (nat_le words 8) (zeros_code sc cleared words params) (zeros_loop sc params) (zeros_stored cleared words params) (zeros_looped params))))
+      both (stack_test st 29) (save_code st b ++ (params_code st params 0 ++ locals_code st cleared words params)) (tests_stack 29 (omega arith))
+      (both (save_code st b) (params_code st params 0 ++ locals_code st cleared words params) (saves b)
+      (both (params_code st params 0) (locals_code st cleared words params) (params_stored params 0) (either (nat_le words 8) (zeros_code st cleared words params) (zeros_loop st params) (zeros_stored cleared words params) (zeros_looped params))))
 
   register_saves : (b : Bool) → Fine (if b then Sw 31 29 0 ∷ [] else [])
   register_saves b = either b (Sw 31 29 0 ∷ []) [] (front (Sw 31 29 0) [] (omega arith, omega arith, omega arith) none) none
 
-  register_begins : (cleared : ℕ → Bool) (params locals : ℕ) (b : Bool) → Fine (register_entry sc cleared params locals b)
+  register_begins : (cleared : ℕ → Bool) (params locals : ℕ) (b : Bool) → Fine (register_entry st cleared params locals b)
   register_begins cleared params locals b =
-      both (stack_test sc 1) ((if b then Sw 31 29 0 ∷ [] else []) ++ clear_code cleared locals params) (tests_stack 1 (omega arith)) (both (if b then Sw 31 29 0 ∷ [] else []) (clear_code cleared locals params) (register_saves b) (clears cleared locals params))
+      both (stack_test st 1) ((if b then Sw 31 29 0 ∷ [] else []) ++ clear_code cleared locals params) (tests_stack 1 (omega arith)) (both (if b then Sw 31 29 0 ∷ [] else []) (clear_code cleared locals params) (register_saves b) (clears cleared locals params))
 
   returns_by : Fine (Jr 31 ∷ [])
   returns_by = front (Jr 31) [] (omega arith) none
 
-  begins : (cleared : ℕ → Bool) (params : ℕ) (locals : List CDecl) (b : Bool) → Fine (entry_code sc cleared params locals b)
-  begins cleared params locals b =
-      either sc.in_registers (register_entry sc cleared params (length locals) b) (frame_entry sc cleared params (all_words sc.env.structs (map typed_of locals)) b)
-      (register_begins cleared params (length locals) b) (frame_begins cleared params (all_words sc.env.structs (map typed_of locals)) b)
+  begins : (cleared : ℕ → Bool) (params locals words : ℕ) (b : Bool) → Fine (entry_code st cleared params locals words b)
+  begins cleared params locals words b =
+      either st.in_registers (register_entry st cleared params locals b) (frame_entry st cleared params words b) (register_begins cleared params locals b) (frame_begins cleared params words b)
 
-  leaves : (b : Bool) → Fine (exit_code sc b)
+  leaves : (b : Bool) → Fine (exit_code st b)
   leaves b =
-      either sc.in_registers (register_return b) (frame_return sc b)
+      either st.in_registers (register_return b) (frame_return st b)
       (both (if b then Lw 31 29 0 ∷ [] else []) (Jr 31 ∷ []) (either b (Lw 31 29 0 ∷ []) [] (front (Lw 31 29 0) [] (omega arith, omega arith, omega arith) none) none) returns_by)
-      (both (restore_code sc b) (end_code 29 (frame_back sc) ++ (Jr 31 ∷ [])) (restores b) (both (end_code 29 (frame_back sc)) (Jr 31 ∷ []) (ends 29 (frame_back sc) (omega arith)) returns_by))
+      (both (restore_code st b) (end_code 29 (frame_back st) ++ (Jr 31 ∷ [])) (restores b) (both (end_code 29 (frame_back st)) (Jr 31 ∷ []) (ends 29 (frame_back st) (omega arith)) returns_by))
 
   argument_fine : (count i : ℕ) → i < 4 → InRange (argument_code count i)
   argument_fine count i h = (omega (arith, h), from_which (nat_lt i count), omega arith)
@@ -209,12 +212,13 @@ module _ (sc : Scope) (x : Links) (codes : CodesInRange) (exits : HasNearExits s
 
   module _ (encoded : (ws : List ℕ) → IsTrue (are_allowed_words ws) → AreEncoded ws) where
     -- the code of a body
-    pub body_fine : (params : ℕ) (b : CBody) → IsEmittableBody sc.env params b → Fine (code_of_body sc x params b)
+    pub body_fine : (params : ℕ) (b : CBody) → IsEmittableBody params b → Fine (code_of_body sc x params b)
     body_fine params (code locals stmts ans) h =
-        let r = h.1.room in
-        both (entry_code sc (is_cleared locals stmts ans) params locals (are_calling stmts)) (stmts_code sc x stmts ++ return_code sc (are_calling stmts) ans) (begins (is_cleared locals stmts ans) params locals (are_calling stmts))
+        let r = h.1 in
+        both (entry_code st (is_cleared locals stmts ans) params (length locals) (all_words sc.env.structs (map typed_of locals)) (are_calling stmts)) (stmts_code sc x stmts ++ return_code sc (are_calling stmts) ans)
+        (begins (is_cleared locals stmts ans) params (length locals) (all_words sc.env.structs (map typed_of locals)) (are_calling stmts))
         (both (stmts_code sc x stmts) (return_code sc (are_calling stmts) ans) (statements stmts h.0)
-        (both (value_code sc ans 2 8) (exit_code sc (are_calling stmts)) (codes.value sc exits ans 2 8 (omega arith) (omega (arith, r))) (leaves (are_calling stmts))))
+        (both (value_code sc ans 2 8) (exit_code st (are_calling stmts)) (codes.value sc exits ans 2 8 (omega arith) (omega (arith, r))) (leaves (are_calling stmts))))
     body_fine params (asm text span ws) h =
-        both (stack_test sc 1) (asm_code params ws ++ (Jr 31 ∷ [])) (tests_stack 1 (omega arith))
+        both (stack_test st 1) (asm_code params ws ++ (Jr 31 ∷ [])) (tests_stack 1 (omega arith))
         (both (asm_code params ws) (Jr 31 ∷ []) (both (arguments_code params) (asm_body_code ws) (arguments_fine params) (encoded ws h.1).range) returns_by)

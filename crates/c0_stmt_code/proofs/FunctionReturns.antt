@@ -21,10 +21,12 @@ use Rattle.c0_meaning.specs.Operators.{faulted, stuck}
 use Rattle.c0_meaning.specs.World.{Cost, units, plus, Configuration, calls_ended}
 use Rattle.c0_meaning.specs.Running.{Target, into, outward, Work, then_go, deliver, store}
 use Rattle.c0_meaning.specs.TypedState.{Fits, store_typing}
+use Rattle.c0_typed.specs.Leaf.{calls_in}
 use Rattle.c0_expr_code.specs.Scope.{Scope}
-use Rattle.c0_expr_code.specs.Code.{frame_back, access_code, low, made, value_code}
+use Rattle.c0_expr_code.specs.FrameSetting.{FrameSetting, frame_back, frame_setting}
+use Rattle.c0_expr_code.specs.Code.{access_code, low, made, value_code}
 use Rattle.c0_expr_code.specs.Relation.{KeepsRegisters, HoldsValue, Evaluates, Splits}
-use Rattle.c0_stmt_code.specs.Code.{calls_in, frame_slot, end_code, restore_code, frame_return, register_return, exit_code, answer_code, stored_code}
+use Rattle.c0_stmt_code.specs.Code.{frame_slot, end_code, restore_code, frame_return, register_return, exit_code, answer_code, stored_code}
 use Rattle.c0_stmt_code.specs.Setup.{Setup}
 use Rattle.c0_stmt_code.specs.Journey.{Led}
 use Rattle.c0_expr_code.specs.Reads.{reads, Covers}
@@ -55,18 +57,18 @@ module _ (compose : RunsCompose) (w : World) (sound : Sound w) (straight : Strai
     pub special : c.special ≡ b.special
     pub others : (x : ℕ) → x ≢ 1 → x ≢ 29 → x ≢ 31 → c.regs x ≡ b.regs x
 
-  module _ (sc : Scope) (e : ℕ) (inside : sc.frame ≤ e) (some : 0 < sc.frame) (small : 4 * e < 2 ^ 32) (fits : e ≤ w.words) where
+  module _ (st : FrameSetting) (e : ℕ) (inside : st.frame ≤ e) (some : 0 < st.frame) (small : 4 * e < 2 ^ 32) (fits : e ≤ w.words) where
     record Restored (to : ℕ) (b c : Contents) : Type 0 where
       is : c.regs 31 ≡ 4 * to
       memory : c.memory ≡ b.memory
       special : c.special ≡ b.special
       others : (x : ℕ) → x ≢ 1 → x ≢ 31 → c.regs x ≡ b.regs x
 
-    restores : (calling : Bool) (to k : ℕ) (c : Contents) (d : Behind) → d.pending ≡ Idle → c.regs 29 ≡ 4 * e → (if calling then c.memory (e - sc.frame) else c.regs 31) ≡ 4 * to → CodeAt w k (restore_code sc calling)
-        → (c' : Contents) × Restored to c c' × Reaches w 3 (at_with k c d) (at_with (k + length (restore_code sc calling)) c' d)
+    restores : (calling : Bool) (to k : ℕ) (c : Contents) (d : Behind) → d.pending ≡ Idle → c.regs 29 ≡ 4 * e → (if calling then c.memory (e - st.frame) else c.regs 31) ≡ 4 * to → CodeAt w k (restore_code st calling)
+        → (c' : Contents) × Restored to c c' × Reaches w 3 (at_with k c d) (at_with (k + length (restore_code st calling)) c' d)
     restores false to k c d idle at is code = (c, record { is = is; memory = refl; special = refl; others = λ x ne me. refl }, subst (λ m. Reaches w 3 (at_with k c d) (at_with m c d)) (omega arith) (compose.later w 0 3 _ _ (omega arith) (compose.none w (at_with k c d))))
     restores true to k c d idle at is code =
-        let r = on_place compose w straight (Restored to c) (λ y x. Lw 31 y x) (frame_slot sc 0) 1 k c d idle (λ q. absurd (omega (arith, q))) (λ q. absurd (omega (arith, q))) code
+        let r = on_place compose w straight (Restored to c) (λ y x. Lw 31 y x) (frame_slot st 0) 1 k c d idle (λ q. absurd (omega (arith, q))) (λ q. absurd (omega (arith, q))) code
         (λ y m a there near address. (
           with_reg a 31 (4 * to),
           record {
@@ -75,23 +77,23 @@ module _ (compose : RunsCompose) (w : World) (sound : Sound w) (straight : Strai
             special = near.special;
             others = λ x ne me. other_reg a.regs 31 (4 * to) x me ∙ near.others x ne ne;
           },
-          straight.next (Lw 31 y (low ((frame_back sc + 4 * 0) % 2 ^ 32))) (Reads (e - sc.frame) (4 * to)) m a d there refl idle
-              (address ∙ ap (λ v. (v + (frame_back sc + 4 * 0) % 2 ^ 32) % 2 ^ 32) at ∙ frame_address sc e 0 inside small (omega arith) ∙ omega arith, omega (arith, inside, some, fits), ap (λ f. f (e - sc.frame)) near.memory ∙ is),
+          straight.next (Lw 31 y (low ((frame_back st + 4 * 0) % 2 ^ 32))) (Reads (e - st.frame) (4 * to)) m a d there refl idle
+              (address ∙ ap (λ v. (v + (frame_back st + 4 * 0) % 2 ^ 32) % 2 ^ 32) at ∙ frame_address st e 0 inside small (omega arith) ∙ omega arith, omega (arith, inside, some, fits), ap (λ f. f (e - st.frame)) near.memory ∙ is),
         )) in
-        (r.0, r.1, subst (λ m. Reaches w 3 (at_with m c d) (at_with (k + length (restore_code sc true)) r.0 d)) (omega arith) (compose.later w (place_steps (frame_slot sc 0)) 3 _ _ (few_steps (frame_slot sc 0)) r.2))
+        (r.0, r.1, subst (λ m. Reaches w 3 (at_with m c d) (at_with (k + length (restore_code st true)) r.0 d)) (omega arith) (compose.later w (place_steps (frame_slot st 0)) 3 _ _ (few_steps (frame_slot st 0)) r.2))
 
-    pub returns : (calling : Bool) (to k : ℕ) (c : Contents) (d : Behind) → d.pending ≡ Idle → c.regs 29 ≡ 4 * e → (if calling then c.memory (e - sc.frame) else c.regs 31) ≡ 4 * to → CodeAt w k (frame_return sc calling)
-        → (c' : Contents) × Returned (e - sc.frame) c c' × Reaches w 7 (at_with k c d) (at_with to c' d)
+    pub returns : (calling : Bool) (to k : ℕ) (c : Contents) (d : Behind) → d.pending ≡ Idle → c.regs 29 ≡ 4 * e → (if calling then c.memory (e - st.frame) else c.regs 31) ≡ 4 * to → CodeAt w k (frame_return st calling)
+        → (c' : Contents) × Returned (e - st.frame) c c' × Reaches w 7 (at_with k c d) (at_with to c' d)
     returns calling to k c d idle at is code =
-        let tail : List Inst = end_code 29 (frame_back sc) ++ (Jr 31 ∷ []) in
-        let one = restores calling to k c d idle at is (front w k (restore_code sc calling) (end_code 29 (frame_back sc) ++ (Jr 31 ∷ [])) code) in
-        let k1 : ℕ = k + length (restore_code sc calling) in
-        let behind = back w k (restore_code sc calling) (end_code 29 (frame_back sc) ++ (Jr 31 ∷ [])) code in
-        let two = ends compose w sound straight jumps 29 (frame_back sc) e k1 one.0 d idle (λ q. absurd (omega (arith, q))) (one.1.others 29 (λ q. absurd (omega (arith, q))) (λ q. absurd (omega (arith, q))) ∙ at) (front w k1 (end_code 29 (frame_back sc)) (Jr 31 ∷ []) behind) in
-        let back_at = back w k1 (end_code 29 (frame_back sc)) (Jr 31 ∷ []) behind in
+        let tail : List Inst = end_code 29 (frame_back st) ++ (Jr 31 ∷ []) in
+        let one = restores calling to k c d idle at is (front w k (restore_code st calling) (end_code 29 (frame_back st) ++ (Jr 31 ∷ [])) code) in
+        let k1 : ℕ = k + length (restore_code st calling) in
+        let behind = back w k (restore_code st calling) (end_code 29 (frame_back st) ++ (Jr 31 ∷ [])) code in
+        let two = ends compose w sound straight jumps 29 (frame_back st) e k1 one.0 d idle (λ q. absurd (omega (arith, q))) (one.1.others 29 (λ q. absurd (omega (arith, q))) (λ q. absurd (omega (arith, q))) ∙ at) (front w k1 (end_code 29 (frame_back st)) (Jr 31 ∷ []) behind) in
+        let back_at = back w k1 (end_code 29 (frame_back st)) (Jr 31 ∷ []) behind in
         let address : reg two.0.regs 31 ≡ 4 * to = read_is two.0.regs 31 (λ q. absurd (omega (arith, q))) ∙ two.1.others 31 (λ q. absurd (omega (arith, q))) (λ q. absurd (omega (arith, q))) ∙ one.1.is in
-        let three = led 31 (k1 + length (end_code 29 (frame_back sc))) to two.0 d idle address back_at.0 in
-        let value : two.0.regs 29 ≡ 4 * (e - sc.frame) = let i = two.1.is in sym (read_is two.0.regs 29 (λ q. absurd (omega (arith, q)))) ∙ i ∙ omega (arith, inside, small) in (
+        let three = led 31 (k1 + length (end_code 29 (frame_back st))) to two.0 d idle address back_at.0 in
+        let value : two.0.regs 29 ≡ 4 * (e - st.frame) = let i = two.1.is in sym (read_is two.0.regs 29 (λ q. absurd (omega (arith, q)))) ∙ i ∙ omega (arith, inside, small) in (
           two.0,
           record {
             frame_at = value;
@@ -239,13 +241,13 @@ module _ (runs : RunLaws) (compose : RunsCompose) (W E : Type 0) (Outer : W → 
       let rd = its_ready runs compose W E Outer z jumps straight held typing exprs objects gv hv hw g fs world calls answer c d a others st r waits in
       let scalar = functions.answers g.function a.function r.is in
       let value = value_code sc result 2 8 in
-      let exit = exit_code sc (calls_in a.function.body) in
+      let exit = exit_code (frame_setting sc) (calls_in a.function.body) in
       let deep = stands.test.shallow in
       let some = (fit a.function).value_some result 2 8 in
-      let run = ex.value result (ty_of a.function.answer) stands.test.value scalar stands.few cover 2 8 k c d st.idle rd (front z.w k (value_code sc result 2 8) (exit_code sc (calls_in a.function.body)) stands.code) (omega arith) (omega (arith, deep)) (λ q. absurd (omega (arith, q))) (λ q. absurd (omega (arith, q))) in
+      let run = ex.value result (ty_of a.function.answer) stands.test.value scalar stands.few cover 2 8 k c d st.idle rd (front z.w k (value_code sc result 2 8) (exit_code (frame_setting sc) (calls_in a.function.body)) stands.code) (omega arith) (omega (arith, deep)) (λ q. absurd (omega (arith, q))) (λ q. absurd (omega (arith, q))) in
       let k1 : ℕ = k + length (value_code sc result 2 8) in
-      let exit_is : exit_code sc (calls_in a.function.body) ≡ frame_return sc (calls_in a.function.body) = cond-false sc.in_registers (register_return (calls_in a.function.body)) (frame_return sc (calls_in a.function.body)) form in
-      let exit_at = subst (CodeAt z.w k1) exit_is (back z.w k (value_code sc result 2 8) (exit_code sc (calls_in a.function.body)) stands.code) in
+      let exit_is : exit_code (frame_setting sc) (calls_in a.function.body) ≡ frame_return (frame_setting sc) (calls_in a.function.body) = cond-false sc.in_registers (register_return (calls_in a.function.body)) (frame_return (frame_setting sc) (calls_in a.function.body)) form in
+      let exit_at = subst (CodeAt z.w k1) exit_is (back z.w k (value_code sc result 2 8) (exit_code (frame_setting sc) (calls_in a.function.body)) stands.code) in
       then_splits runs compose W E Outer z jumps 0 0 0 debt 1 (nodes result) (units 0) here here (at_with k c d) a.function k (λ v. k1) c d objects (HoldsValue sc (bases W E Outer z objects (g ∷ fs)) 2 8 2 (ty_of a.function.answer) c) (value_of result here.state)
       (λ cost v. deliver cost target v work there) (λ v q. absurd (omega (arith, q, some))) (none runs z.w (at_with k c d)) (omega arith) (omega arith) st (value_within result here.state) (comes_splits z.w sc 0 k k1 c d _ (value_of result here.state) run)
       (λ u v c1 least most gives path.
@@ -260,7 +262,7 @@ module _ (runs : RunLaws) (compose : RunsCompose) (W E : Type 0) (Outer : W → 
       let at29 : c1.regs 29 ≡ 4 * end_of W E Outer z (g ∷ fs) = keeps.above 29 (λ q. absurd (omega (arith, q))) (omega arith) ∙ r.frame_at ∙ ap (λ y. 4 * (if y then end_of W E Outer z fs else end_of W E Outer z (g ∷ fs))) form in
       let address : (if calls_in a.function.body then c1.memory (end_of W E Outer z (g ∷ fs) - sc.frame) else c1.regs 31) ≡ 4 * a.to =
       ap₂ (λ m y. if calls_in a.function.body then m else y) (ap c1.memory base ∙ ap (λ m. m (end_of W E Outer z fs)) keeps.memory) (keeps.above 31 (λ q. absurd (omega (arith, q))) (omega arith)) ∙ r.return_at in
-      let back_there = returns compose z.w z.sound straight jumps sc (end_of W E Outer z (g ∷ fs)) (omega (arith, fo)) (omega (arith, ws)) (omega (arith, o, sf, small)) (omega (arith, o, sf)) (calls_in a.function.body) a.to k1 c1 d st.idle at29 address exit_at in
+      let back_there = returns compose z.w z.sound straight jumps (frame_setting sc) (end_of W E Outer z (g ∷ fs)) (omega (arith, fo)) (omega (arith, ws)) (omega (arith, o, sf, small)) (omega (arith, o, sf)) (calls_in a.function.body) a.to k1 c1 d st.idle at29 address exit_at in
       let c2 : Contents = back_there.0 in
       let way = on runs z.w (0 + 1) (0 + (0 + 16 * u)) 0 7 (at_with k c d) (at_with k1 c1 d) (at_with a.to back_there.0 d) path (of runs z.w 7 _ _ back_there.2) in
       let canonical = word_same (shapes z.p.unit) (map typed_of z.p.unit.globals) z.a.globals z.a.heap objects objects (λ path t h. refl) (rest_of (unit_scope z.p.unit)) (rest_of sc) (end_of W E Outer z []) (end_of W E Outer z (g ∷ fs)) (ty_of a.function.answer) v gives.fits in
@@ -285,13 +287,13 @@ module _ (runs : RunLaws) (compose : RunsCompose) (W E : Type 0) (Outer : W → 
       let rd = its_ready runs compose W E Outer z jumps straight held typing exprs objects gv hv hw g fs world calls answer c d a others st r waits in
       let scalar = functions.answers g.function a.function r.is in
       let value = value_code sc result 2 8 in
-      let exit = exit_code sc (calls_in a.function.body) in
+      let exit = exit_code (frame_setting sc) (calls_in a.function.body) in
       let deep = stands.test.shallow in
       let some = (fit a.function).value_some result 2 8 in
-      let run = ex.value result (ty_of a.function.answer) stands.test.value scalar stands.few cover 2 8 k c d st.idle rd (front z.w k (value_code sc result 2 8) (exit_code sc (calls_in a.function.body)) stands.code) (omega arith) (omega (arith, deep)) (λ q. absurd (omega (arith, q))) (λ q. absurd (omega (arith, q))) in
+      let run = ex.value result (ty_of a.function.answer) stands.test.value scalar stands.few cover 2 8 k c d st.idle rd (front z.w k (value_code sc result 2 8) (exit_code (frame_setting sc) (calls_in a.function.body)) stands.code) (omega arith) (omega (arith, deep)) (λ q. absurd (omega (arith, q))) (λ q. absurd (omega (arith, q))) in
       let k1 : ℕ = k + length (value_code sc result 2 8) in
-      let exit_is : exit_code sc (calls_in a.function.body) ≡ register_return (calls_in a.function.body) = cond-true sc.in_registers (register_return (calls_in a.function.body)) (frame_return sc (calls_in a.function.body)) form in
-      let exit_at = subst (CodeAt z.w k1) exit_is (back z.w k (value_code sc result 2 8) (exit_code sc (calls_in a.function.body)) stands.code) in
+      let exit_is : exit_code (frame_setting sc) (calls_in a.function.body) ≡ register_return (calls_in a.function.body) = cond-true sc.in_registers (register_return (calls_in a.function.body)) (frame_return (frame_setting sc) (calls_in a.function.body)) form in
+      let exit_at = subst (CodeAt z.w k1) exit_is (back z.w k (value_code sc result 2 8) (exit_code (frame_setting sc) (calls_in a.function.body)) stands.code) in
       then_splits runs compose W E Outer z jumps 0 0 0 debt 1 (nodes result) (units 0) here here (at_with k c d) a.function k (λ v. k1) c d objects (HoldsValue sc (bases W E Outer z objects (g ∷ fs)) 2 8 2 (ty_of a.function.answer) c) (value_of result here.state)
       (λ cost v. deliver cost target v work there) (λ v q. absurd (omega (arith, q, some))) (none runs z.w (at_with k c d)) (omega arith) (omega arith) st (value_within result here.state) (comes_splits z.w sc 0 k k1 c d _ (value_of result here.state) run)
       (λ u v c1 least most gives path.

@@ -11,10 +11,10 @@ use Rattle.c0_meaning.specs.State.{Frame, C0State, stack_words}
 use Rattle.c0_meaning.specs.World.{Configuration}
 use Rattle.c0_meaning.specs.Limits.{words_of_frame}
 use Rattle.c0_meaning.specs.TypedState.{types_of, IsTypedWith, AreDeclared}
+use Rattle.c0_typed.specs.Leaf.{calls_in}
 use Rattle.c0_expr_code.specs.Scope.{Scope}
 use Rattle.c0_expr_code.specs.Bases.{words_of_all, LocalsHeld}
 use Rattle.c0_expr_code.specs.Relation.{Ready, KeepsRegisters}
-use Rattle.c0_stmt_code.specs.Code.{calls_in}
 use Rattle.c0_stmt_code.specs.Setup.{Setup}
 use Rattle.c0_stmt_code.specs.Ahead.{Activation, body_env}
 use Rattle.c0_stmt_code.specs.Standing.{code_text, scope, bases, end_of, unit_scope, Waiting, FunctionRuns, UnderWay, ConfigurationStands}

@@ -18,9 +18,8 @@ use Rattle.c0_meaning.specs.Typed.{IsDeclarable}
 use Rattle.c0_meaning.specs.Value.{Value, int, bool, null, at, group, Values, empty, part, count, part_count, with_part, zero_of}
 use Rattle.c0_meaning.specs.State.{Frame}
 use Rattle.c0_meaning.specs.TypedState.{StoreTyping, types_of, LeadsFrom, AllFit, AreParts, variable_types, IsTypedFrame, store_typing}
-use Rattle.c0_expr_code.specs.Scope.{is_leaf}
+use Rattle.c0_typed.specs.Leaf.{calls_in, is_leaf}
 use Rattle.c0_expr_code.specs.Bases.{words_of_all, RegionHeld, LocalsHeld}
-use Rattle.c0_stmt_code.specs.Code.{calls_in}
 use Rattle.c0_stmt_code.specs.Setup.{Setup}
 use Rattle.c0_stmt_code.specs.Ahead.{Activation}
 use Rattle.c0_stmt_code.specs.Standing.{scope, bases, end_of, unit_scope, VariablesHeld, Waiting, FunctionRuns, UnderWay, ConfigurationStands}

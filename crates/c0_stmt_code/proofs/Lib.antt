@@ -5,22 +5,22 @@ mod LiveAroundSteps
 pub mod CallActs
 pub mod FrameEntered
 pub mod UnitsWithinNodes
-pub mod EmitLeaf
+pub mod PiecesAppended
+pub mod StatementCounts
 pub mod TypedIsEmittable
 pub mod TestsGetDistances
 pub mod WholeBegin
 pub mod AnswersToRegisters
 pub mod FrameMade
 pub mod FunctionLengths
-pub mod LowerLaws
-pub mod ExpressionLaws
+pub mod PremisesOfLowerCrates
+pub mod PremisesOfExpressions
 pub mod HeapGrows
 pub mod ValuesStay
 pub mod ShortStatements
 pub mod RegisterFrames
 mod FirstLive
 pub mod RegisterAssigned
-pub mod FunctionAt
 pub mod PremisesFromBelow
 pub mod ObjectMade
 pub mod ValuesToPlaces
@@ -38,3 +38,6 @@ pub mod VariablesBegin
 pub mod RunStretches
 pub mod StepCosts
 pub mod StatementsAreMade
+mod TypedReads
+pub mod FunctionsAreMade
+pub mod TypedCanBeEmitted

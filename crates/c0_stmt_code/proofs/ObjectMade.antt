@@ -23,11 +23,12 @@ use Rattle.c0_meaning.specs.Numbered.{a_number, a_value, IsNumberedLeft}
 use Rattle.c0_meaning.specs.World.{units, Configuration}
 use Rattle.c0_meaning.specs.Running.{into, Work, finish, Step, Go, allocate}
 use Rattle.c0_meaning.specs.TypedState.{types_of, Fits, store_typing}
+use Rattle.c0_typed.specs.Leaf.{calls_in}
 use Rattle.c0_expr_code.specs.Scope.{Scope}
 use Rattle.c0_expr_code.specs.Code.{constant_code}
 use Rattle.c0_expr_code.specs.Bases.{words_of_all}
 use Rattle.c0_runtime.specs.Laws.{RoutineCalled, HeapIs, IsAsked, NewRuns}
-use Rattle.c0_stmt_code.specs.Code.{calls_in, new_code, answer_code}
+use Rattle.c0_stmt_code.specs.Code.{new_code, answer_code}
 use Rattle.c0_stmt_code.specs.Setup.{Setup}
 use Rattle.c0_stmt_code.specs.Ahead.{Activation, body_env, Block, Awaits, Ahead}
 use Rattle.c0_stmt_code.specs.Standing.{code_text, scope, word_of_value, Waiting, FunctionRuns, ConfigurationStands}

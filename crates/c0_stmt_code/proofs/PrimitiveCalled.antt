@@ -22,9 +22,10 @@ use Rattle.c0_meaning.specs.Evaluation.{costs, values_of}
 use Rattle.c0_meaning.specs.World.{units, Configuration, after_call}
 use Rattle.c0_meaning.specs.Running.{into, Work, then_go, call_with}
 use Rattle.c0_meaning.specs.TypedState.{StoreTyping, types_of, Fits, AllFit, store_typing, IsTypedWith, AreScalars}
+use Rattle.c0_typed.specs.Leaf.{calls_in}
 use Rattle.c0_expr_code.specs.Scope.{Scope}
 use Rattle.c0_expr_code.specs.Bases.{Bases, word_of_scalar, RegionHeld}
-use Rattle.c0_stmt_code.specs.Code.{calls_in, args_code, answer_code}
+use Rattle.c0_stmt_code.specs.Code.{args_code, answer_code}
 use Rattle.c0_stmt_code.specs.Setup.{Setup, ArePassed, scalar_word, PrimitiveIsCalled, HasReturned}
 use Rattle.c0_stmt_code.specs.Ahead.{Activation, body_env, Block, Awaits, Ahead}
 use Rattle.c0_stmt_code.specs.Live.{any_reads, live_at_place}

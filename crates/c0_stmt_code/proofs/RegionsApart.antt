@@ -12,10 +12,10 @@ use Rattle.c0_meaning.specs.Limits.{words_of_frame, locals_of}
 use Rattle.c0_meaning.specs.Sound.{shapes}
 use Rattle.c0_meaning.specs.State.{Frame, stack_words}
 use Rattle.c0_meaning.specs.TypedState.{types_of}
+use Rattle.c0_typed.specs.Leaf.{calls_in}
 use Rattle.c0_expr_code.specs.Bases.{words_of_all, LocalsHeld}
 use Rattle.c0_stmt_code.specs.Setup.{Setup}
 use Rattle.c0_stmt_code.specs.Ahead.{Activation}
-use Rattle.c0_stmt_code.specs.Code.{calls_in}
 use Rattle.c0_stmt_code.specs.Standing.{scope, bases, end_of, VariablesHeld, Waiting, FunctionRuns}
 use Rattle.c0_stmt_code.proofs.PremisesFromBelow.{HeldStays}
 use Rattle.c0_stmt_code.proofs.LiveAroundSteps.{with_live}

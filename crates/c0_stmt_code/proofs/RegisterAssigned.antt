@@ -26,11 +26,12 @@ use Rattle.c0_meaning.specs.Evaluation.{at_no_cost, paying, variable_location, v
 use Rattle.c0_meaning.specs.World.{Cost, units, plus, Configuration, with_state}
 use Rattle.c0_meaning.specs.Running.{Work, push, Go, then_go, store}
 use Rattle.c0_meaning.specs.TypedState.{types_of, Fits, store_typing, variable_types}
-use Rattle.c0_expr_code.specs.Scope.{Scope, is_leaf}
+use Rattle.c0_typed.specs.Leaf.{calls_in, is_leaf}
+use Rattle.c0_expr_code.specs.Scope.{Scope}
 use Rattle.c0_expr_code.specs.Code.{register_of_variable, variable_made, register_made, at_place, local_address, made, value_code}
 use Rattle.c0_expr_code.specs.Bases.{Bases, word_of_scalar, LocalsHeld}
 use Rattle.c0_expr_code.specs.Relation.{HoldsValue}
-use Rattle.c0_stmt_code.specs.Code.{calls_in, assign_code, assigned_code}
+use Rattle.c0_stmt_code.specs.Code.{assign_code, assigned_code}
 use Rattle.c0_stmt_code.specs.Setup.{Setup}
 use Rattle.c0_stmt_code.specs.Ahead.{Activation, body_env, Block, Ahead}
 use Rattle.c0_stmt_code.specs.Standing.{code_text, scope, bases, end_of, VariablesHeld, Waiting, FunctionRuns, UnderWay, ConfigurationStands}

@@ -10,8 +10,8 @@ use Rattle.c0_meaning.specs.Addresses.{words_to_part}
 use Rattle.c0_meaning.specs.Value.{Region, globals, heap, locals, Value, value_with}
 use Rattle.c0_meaning.specs.State.{Frame, write}
 use Rattle.c0_meaning.specs.TypedState.{types_of, LeadsFrom, Fits, store_typing}
+use Rattle.c0_typed.specs.Leaf.{calls_in}
 use Rattle.c0_expr_code.specs.Bases.{location_word, word_of_scalar, LocalsHeld}
-use Rattle.c0_stmt_code.specs.Code.{calls_in}
 use Rattle.c0_stmt_code.specs.Setup.{Setup}
 use Rattle.c0_stmt_code.specs.Ahead.{Activation}
 use Rattle.c0_stmt_code.specs.Standing.{scope, bases, end_of, unit_scope, Waiting, FunctionRuns, UnderWay, ConfigurationStands}

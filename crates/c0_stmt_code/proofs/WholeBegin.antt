@@ -8,8 +8,8 @@ use Rattle.mips_table.specs.Device.{Idle}
 use Rattle.mips_table.specs.Code.{Contents, reg, with_reg, Behind, World, Sound, CodeState, at_with, Reaches, RunLaws, CodeAt}
 use Rattle.masm.specs.Says.{Gives}
 use Rattle.masm.specs.Laws.{RunsCompose, StraightRuns, JumpsLead}
-use Rattle.c0_expr_code.specs.Scope.{Scope}
-use Rattle.c0_expr_code.specs.Code.{is_near, low, frame_back, access_code}
+use Rattle.c0_expr_code.specs.FrameSetting.{FrameSetting, frame_back}
+use Rattle.c0_expr_code.specs.Code.{is_near, low, access_code}
 use Rattle.c0_stmt_code.specs.Code.{frame_slot, save_code, params_code, zeros_code, zeros_loop, locals_code}
 use Rattle.c0_stmt_code.specs.Frames.{FrameMade, FramesAreMade}
 use Rattle.c0_stmt_code.proofs.RunStretches.{Stretch, on, of, within}
@@ -18,7 +18,7 @@ use Rattle.c0_stmt_code.proofs.RegionsApart.{put_same, put_other}
 use Rattle.c0_stmt_code.proofs.MemoryAccess.{other_reg, place_steps, few_steps, on_place}
 use Rattle.c0_stmt_code.proofs.FrameMade.{frame_address, frame_is_near, Zeroed, to_frame, params_run, zeros_run, loop_run}
 
-module _ (compose : RunsCompose) (w : World) (sound : Sound w) (straight : StraightRuns w) (jumps : JumpsLead w) (runs : RunLaws) (sc : Scope) (e : ℕ) (inside : sc.frame ≤ e) (small : 4 * e < 2 ^ 32) (fits : e ≤ w.words) (free : (x : ℕ) → e - sc.frame ≤ x → x < e → w.kept x ≡ None) where
+module _ (compose : RunsCompose) (w : World) (sound : Sound w) (straight : StraightRuns w) (jumps : JumpsLead w) (runs : RunLaws) (st : FrameSetting) (e : ℕ) (inside : st.frame ≤ e) (small : 4 * e < 2 ^ 32) (fits : e ≤ w.words) (free : (x : ℕ) → e - st.frame ≤ x → x < e → w.kept x ≡ None) where
   abbrev Cleared : (at count : ℕ) → (cleared : ℕ → Bool) → ℕ → Contents → Contents → Type 0
   Cleared at count cleared i b c = Zeroed compose w sound straight jumps at count cleared i b c
 
@@ -33,23 +33,23 @@ module _ (compose : RunsCompose) (w : World) (sound : Sound w) (straight : Strai
     pub none : count ≡ 0 → most ≡ 0
     pub way : Stretch runs w least most (at_with k c d) (at_with to contents d)
 
-  loop_begins : (wanted : ℕ → Bool) (f n k : ℕ) (c : Contents) (d : Behind) → d.pending ≡ Idle → 3 + f + suc n ≡ sc.frame → c.regs 29 ≡ 4 * e → CodeAt w k (zeros_loop sc f) → LocalsDone ((e - sc.frame) + (3 + f)) (suc n) wanted f k (k + length (zeros_loop sc f)) c d
+  loop_begins : (wanted : ℕ → Bool) (f n k : ℕ) (c : Contents) (d : Behind) → d.pending ≡ Idle → 3 + f + suc n ≡ st.frame → c.regs 29 ≡ 4 * e → CodeAt w k (zeros_loop st f) → LocalsDone ((e - st.frame) + (3 + f)) (suc n) wanted f k (k + length (zeros_loop st f)) c d
   loop_begins wanted f n k c d idle sum at code =
-      let access = access_code (λ y x. Addiu 2 y x) 2 (frame_slot sc (3 + f)) in
+      let access = access_code (λ y x. Addiu 2 y x) 2 (frame_slot st (3 + f)) in
       let tail : List Inst = Sw 0 2 0 ∷ Addiu 2 2 4 ∷ Bne 2 29 65533 ∷ [] in
-      let first = on_place compose w straight (λ c'. (c'.regs 2 ≡ 4 * ((e - sc.frame) + (3 + f))) × (c'.memory ≡ c.memory) × (c'.special ≡ c.special) × ((x : ℕ) → x ≢ 1 → x ≢ 2 → c'.regs x ≡ c.regs x)) (λ y x. Addiu 2 y x) (frame_slot sc (3 + f)) 2 k c d idle (λ z. absurd (omega (arith, z))) (λ z. absurd (omega (arith, z)))
-      (front w k (access_code (λ y x. Addiu 2 y x) 2 (frame_slot sc (3 + f))) (Sw 0 2 0 ∷ Addiu 2 2 4 ∷ Bne 2 29 65533 ∷ []) code)
+      let first = on_place compose w straight (λ c'. (c'.regs 2 ≡ 4 * ((e - st.frame) + (3 + f))) × (c'.memory ≡ c.memory) × (c'.special ≡ c.special) × ((x : ℕ) → x ≢ 1 → x ≢ 2 → c'.regs x ≡ c.regs x)) (λ y x. Addiu 2 y x) (frame_slot st (3 + f)) 2 k c d idle (λ z. absurd (omega (arith, z))) (λ z. absurd (omega (arith, z)))
+      (front w k (access_code (λ y x. Addiu 2 y x) 2 (frame_slot st (3 + f))) (Sw 0 2 0 ∷ Addiu 2 2 4 ∷ Bne 2 29 65533 ∷ []) code)
       (λ y m a there near address. (
-        with_reg a 2 (4 * ((e - sc.frame) + (3 + f))),
-        (refl, near.memory, near.special, λ x ne me. other_reg a.regs 2 (4 * ((e - sc.frame) + (3 + f))) x me ∙ near.others x ne me),
-        straight.next (Addiu 2 y (low ((frame_back sc + 4 * (3 + f)) % 2 ^ 32))) (Gives (4 * ((e - sc.frame) + (3 + f)))) m a d there refl idle (address ∙ ap (λ v. (v + (frame_back sc + 4 * (3 + f)) % 2 ^ 32) % 2 ^ 32) at ∙ frame_address sc e (3 + f) inside small (omega (arith, sum))),
+        with_reg a 2 (4 * ((e - st.frame) + (3 + f))),
+        (refl, near.memory, near.special, λ x ne me. other_reg a.regs 2 (4 * ((e - st.frame) + (3 + f))) x me ∙ near.others x ne me),
+        straight.next (Addiu 2 y (low ((frame_back st + 4 * (3 + f)) % 2 ^ 32))) (Gives (4 * ((e - st.frame) + (3 + f)))) m a d there refl idle (address ∙ ap (λ v. (v + (frame_back st + 4 * (3 + f)) % 2 ^ 32) % 2 ^ 32) at ∙ frame_address st e (3 + f) inside small (omega (arith, sum))),
       )) in
       let c1 : Contents = first.0 in
-      let rest = loop_run compose w sound straight jumps sc e inside small fits free runs n ((e - sc.frame) + (3 + f)) (k + length (access_code (λ y x. Addiu 2 y x) 2 (frame_slot sc (3 + f)))) first.0 d idle (omega arith) (omega (arith, sum, inside)) first.1.0
-      (first.1.3 29 (λ z. absurd (omega (arith, z))) (λ z. absurd (omega (arith, z))) ∙ at) (back w k (access_code (λ y x. Addiu 2 y x) 2 (frame_slot sc (3 + f))) (Sw 0 2 0 ∷ Addiu 2 2 4 ∷ Bne 2 29 65533 ∷ []) code) in
-      let len : k + length (access_code (λ y x. Addiu 2 y x) 2 (frame_slot sc (3 + f))) + 3 ≡ k + length (zeros_loop sc f) = omega (arith, length-append (access_code (λ y x. Addiu 2 y x) 2 (frame_slot sc (3 + f))) (Sw 0 2 0 ∷ Addiu 2 2 4 ∷ Bne 2 29 65533 ∷ [])) in
+      let rest = loop_run compose w sound straight jumps st e inside small fits free runs n ((e - st.frame) + (3 + f)) (k + length (access_code (λ y x. Addiu 2 y x) 2 (frame_slot st (3 + f)))) first.0 d idle (omega arith) (omega (arith, sum, inside)) first.1.0
+      (first.1.3 29 (λ z. absurd (omega (arith, z))) (λ z. absurd (omega (arith, z))) ∙ at) (back w k (access_code (λ y x. Addiu 2 y x) 2 (frame_slot st (3 + f))) (Sw 0 2 0 ∷ Addiu 2 2 4 ∷ Bne 2 29 65533 ∷ []) code) in
+      let len : k + length (access_code (λ y x. Addiu 2 y x) 2 (frame_slot st (3 + f))) + 3 ≡ k + length (zeros_loop st f) = omega (arith, length-append (access_code (λ y x. Addiu 2 y x) 2 (frame_slot st (3 + f))) (Sw 0 2 0 ∷ Addiu 2 2 4 ∷ Bne 2 29 65533 ∷ [])) in
       let here : k + 0 ≡ k = omega arith in
-      let go : Stretch runs w 0 3 (at_with k c d) (at_with (k + length (access_code (λ y x. Addiu 2 y x) 2 (frame_slot sc (3 + f)))) first.0 d) = of runs w 3 _ _ (subst (λ m. Reaches w 3 (at_with m c d) (at_with (k + length (access_code (λ y x. Addiu 2 y x) 2 (frame_slot sc (3 + f)))) first.0 d)) here (compose.later w (place_steps (frame_slot sc (3 + f))) 3 _ _ (few_steps (frame_slot sc (3 + f))) first.2)) in
+      let go : Stretch runs w 0 3 (at_with k c d) (at_with (k + length (access_code (λ y x. Addiu 2 y x) 2 (frame_slot st (3 + f)))) first.0 d) = of runs w 3 _ _ (subst (λ m. Reaches w 3 (at_with m c d) (at_with (k + length (access_code (λ y x. Addiu 2 y x) 2 (frame_slot st (3 + f)))) first.0 d)) here (compose.later w (place_steps (frame_slot st (3 + f))) 3 _ _ (few_steps (frame_slot st (3 + f))) first.2)) in
       record {
         contents = rest.0;
         cleared = record {
@@ -63,16 +63,16 @@ module _ (compose : RunsCompose) (w : World) (sound : Sound w) (straight : Strai
         most = 3 * suc n + 3;
         few = omega arith;
         none = λ e. absurd (omega (arith, e));
-        way = within runs w (0 + suc n) (3 + 3 * suc n) (suc n) (3 * suc n + 3) (at_with k c d) (at_with (k + length (zeros_loop sc f)) rest.0 d) (omega arith) (omega arith)
-            (on runs w 0 3 (suc n) (3 * suc n) (at_with k c d) (at_with (k + length (access_code (λ y x. Addiu 2 y x) 2 (frame_slot sc (3 + f)))) first.0 d) (at_with (k + length (zeros_loop sc f)) rest.0 d) go (subst (λ m. Stretch runs w (suc n) (3 * suc n) (at_with (k + length (access_code (λ y x. Addiu 2 y x) 2 (frame_slot sc (3 + f)))) first.0 d) (at_with m rest.0 d)) len rest.2));
+        way = within runs w (0 + suc n) (3 + 3 * suc n) (suc n) (3 * suc n + 3) (at_with k c d) (at_with (k + length (zeros_loop st f)) rest.0 d) (omega arith) (omega arith)
+            (on runs w 0 3 (suc n) (3 * suc n) (at_with k c d) (at_with (k + length (access_code (λ y x. Addiu 2 y x) 2 (frame_slot st (3 + f)))) first.0 d) (at_with (k + length (zeros_loop st f)) rest.0 d) go (subst (λ m. Stretch runs w (suc n) (3 * suc n) (at_with (k + length (access_code (λ y x. Addiu 2 y x) 2 (frame_slot st (3 + f)))) first.0 d) (at_with m rest.0 d)) len rest.2));
       }
 
-  pub locals_run : (wanted : ℕ → Bool) (n f k : ℕ) (c : Contents) (d : Behind) → d.pending ≡ Idle → 3 + f + n ≡ sc.frame → c.regs 29 ≡ 4 * e → CodeAt w k (locals_code sc wanted n f) → LocalsDone ((e - sc.frame) + (3 + f)) n wanted f k (k + length (locals_code sc wanted n f)) c d
+  pub locals_run : (wanted : ℕ → Bool) (n f k : ℕ) (c : Contents) (d : Behind) → d.pending ≡ Idle → 3 + f + n ≡ st.frame → c.regs 29 ≡ 4 * e → CodeAt w k (locals_code st wanted n f) → LocalsDone ((e - st.frame) + (3 + f)) n wanted f k (k + length (locals_code st wanted n f)) c d
   locals_run wanted n f k c d idle sum at code = elim (cases_Bool (nat_le n 8)) [
     | inl few ↦
-        let same : locals_code sc wanted n f ≡ zeros_code sc wanted n f = cond-true (nat_le n 8) (zeros_code sc wanted n f) (zeros_loop sc f) few in
+        let same : locals_code st wanted n f ≡ zeros_code st wanted n f = cond-true (nat_le n 8) (zeros_code st wanted n f) (zeros_loop st f) few in
         let le = leb-true n 8 few in
-        let r = zeros_run compose w sound straight jumps sc e inside small fits free wanted n f k c d idle (omega (arith, sum)) at (subst (CodeAt w k) same code) in
+        let r = zeros_run compose w sound straight jumps st e inside small fits free wanted n f k c d idle (omega (arith, sum)) at (subst (CodeAt w k) same code) in
         record {
           contents = r.0;
           cleared = r.1;
@@ -84,19 +84,19 @@ module _ (compose : RunsCompose) (w : World) (sound : Sound w) (straight : Strai
           way = of runs w (3 * n) _ _ (subst (λ is. Reaches w (3 * n) (at_with k c d) (at_with (k + length is) r.0 d)) (sym same) r.2);
         }
     | inr many ↦
-        let same : locals_code sc wanted n f ≡ zeros_loop sc f = cond-false (nat_le n 8) (zeros_code sc wanted n f) (zeros_loop sc f) many in
+        let same : locals_code st wanted n f ≡ zeros_loop st f = cond-false (nat_le n 8) (zeros_code st wanted n f) (zeros_loop st f) many in
         let r = by_loop n many sum (subst (CodeAt w k) same code) in
-        subst (λ is. LocalsDone ((e - sc.frame) + (3 + f)) n wanted f k (k + length is) c d) (sym same) r
+        subst (λ is. LocalsDone ((e - st.frame) + (3 + f)) n wanted f k (k + length is) c d) (sym same) r
   ]
     where
-      by_loop : (n : ℕ) → nat_le n 8 ≡ false → 3 + f + n ≡ sc.frame → CodeAt w k (zeros_loop sc f) → LocalsDone ((e - sc.frame) + (3 + f)) n wanted f k (k + length (zeros_loop sc f)) c d
+      by_loop : (n : ℕ) → nat_le n 8 ≡ false → 3 + f + n ≡ st.frame → CodeAt w k (zeros_loop st f) → LocalsDone ((e - st.frame) + (3 + f)) n wanted f k (k + length (zeros_loop st f)) c d
       by_loop zero many sum code = absurd (cc)
       by_loop (suc n) many sum code = loop_begins wanted f n k c d idle sum at code
 
   -- the frame is made, in so many steps; where there are no locals it is near, and its first word takes one
   pub record Framed (calling : Bool) (wanted : ℕ → Bool) (params locals k to : ℕ) (c : Contents) (d : Behind) : Type 0 where
     pub contents : Contents
-    pub made : FrameMade sc e calling wanted params locals c contents
+    pub made : FrameMade st e calling wanted params locals c contents
     pub least : ℕ
     pub paid : locals ≤ 8 + least
     pub most : ℕ
@@ -107,57 +107,57 @@ module _ (compose : RunsCompose) (w : World) (sound : Sound w) (straight : Strai
   -- the return address is saved, where that is asked
   record Saved (calling : Bool) (k to : ℕ) (c : Contents) (d : Behind) : Type 0 where
     contents : Contents
-    is : calling ≡ true → contents.memory (e - sc.frame) ≡ c.regs 31
-    others : (x : ℕ) → x ≢ e - sc.frame → contents.memory x ≡ c.memory x
+    is : calling ≡ true → contents.memory (e - st.frame) ≡ c.regs 31
+    others : (x : ℕ) → x ≢ e - st.frame → contents.memory x ≡ c.memory x
     special : contents.special ≡ c.special
     regs : (x : ℕ) → x ≢ 1 → contents.regs x ≡ c.regs x
     most : ℕ
     few : most ≤ 3
-    near : sc.frame ≤ 8192 → most ≤ 1
+    near : st.frame ≤ 8192 → most ≤ 1
     run : Reaches w most (at_with k c d) (at_with to contents d)
 
-  saves : (calling : Bool) (k : ℕ) (c : Contents) (d : Behind) → d.pending ≡ Idle → 0 < sc.frame → c.regs 29 ≡ 4 * e → CodeAt w k (save_code sc calling) → Saved calling k (k + length (save_code sc calling)) c d
+  saves : (calling : Bool) (k : ℕ) (c : Contents) (d : Behind) → d.pending ≡ Idle → 0 < st.frame → c.regs 29 ≡ 4 * e → CodeAt w k (save_code st calling) → Saved calling k (k + length (save_code st calling)) c d
   saves false k c d idle some at code = record { contents = c; is = λ q. absurd (cc); others = λ x ne. refl; special = refl; regs = λ x ne. refl; most = 0; few = omega arith; near = λ small. omega arith; run = subst (λ m. Reaches w 0 (at_with k c d) (at_with m c d)) (omega arith) (compose.none w (at_with k c d)) }
   saves true k c d idle some at code =
-      let r = to_frame compose w sound straight jumps sc e inside small fits free 31 0 k c d idle (λ z. absurd (omega (arith, z))) some at code in
-      let here : (e - sc.frame) + 0 ≡ e - sc.frame = omega arith in
+      let r = to_frame compose w sound straight jumps st e inside small fits free 31 0 k c d idle (λ z. absurd (omega (arith, z))) some at code in
+      let here : (e - st.frame) + 0 ≡ e - st.frame = omega arith in
       record {
         contents = r.0;
-        is = λ q. ap r.0.memory (sym here) ∙ ap (λ m. m ((e - sc.frame) + 0)) r.1.memory ∙ put_same c.memory ((e - sc.frame) + 0) (reg c.regs 31);
-        others = λ x ne. ap (λ m. m x) r.1.memory ∙ put_other c.memory ((e - sc.frame) + 0) (reg c.regs 31) x (λ q. ne (q ∙ here));
+        is = λ q. ap r.0.memory (sym here) ∙ ap (λ m. m ((e - st.frame) + 0)) r.1.memory ∙ put_same c.memory ((e - st.frame) + 0) (reg c.regs 31);
+        others = λ x ne. ap (λ m. m x) r.1.memory ∙ put_other c.memory ((e - st.frame) + 0) (reg c.regs 31) x (λ q. ne (q ∙ here));
         special = r.1.special;
         regs = λ x ne. r.1.others x ne ne;
-        most = place_steps (frame_slot sc 0);
-        few = few_steps (frame_slot sc 0);
-        near = λ small. let one : place_steps (frame_slot sc 0) ≡ 1 = cond-true (is_near (frame_slot sc 0).displacement) 1 3 (frame_is_near sc 0 some small) in omega (arith, one);
+        most = place_steps (frame_slot st 0);
+        few = few_steps (frame_slot st 0);
+        near = λ small. let one : place_steps (frame_slot st 0) ≡ 1 = cond-true (is_near (frame_slot st 0).displacement) 1 3 (frame_is_near st 0 some small) in omega (arith, one);
         run = r.2;
       }
 
-  pub frames : (calling : Bool) (wanted : ℕ → Bool) (params locals k : ℕ) (c : Contents) (d : Behind) → d.pending ≡ Idle → 3 + params + locals ≡ sc.frame → params ≤ 8 → c.regs 29 ≡ 4 * e
-      → CodeAt w k (save_code sc calling ++ (params_code sc params 0 ++ locals_code sc wanted locals params)) → Framed calling wanted params locals k (k + length (save_code sc calling ++ (params_code sc params 0 ++ locals_code sc wanted locals params))) c d
+  pub frames : (calling : Bool) (wanted : ℕ → Bool) (params locals k : ℕ) (c : Contents) (d : Behind) → d.pending ≡ Idle → 3 + params + locals ≡ st.frame → params ≤ 8 → c.regs 29 ≡ 4 * e
+      → CodeAt w k (save_code st calling ++ (params_code st params 0 ++ locals_code st wanted locals params)) → Framed calling wanted params locals k (k + length (save_code st calling ++ (params_code st params 0 ++ locals_code st wanted locals params))) c d
   frames calling wanted params locals k c d idle sum few at code =
-      let a = save_code sc calling in
-      let b = params_code sc params 0 in
-      let l = locals_code sc wanted locals params in
-      let one = saves calling k c d idle (omega (arith, sum)) at (front w k (save_code sc calling) (params_code sc params 0 ++ locals_code sc wanted locals params) code) in
-      let behind = back w k (save_code sc calling) (params_code sc params 0 ++ locals_code sc wanted locals params) code in
-      let k1 = k + length (save_code sc calling) in
-      let two = params_run compose w sound straight jumps sc e inside small fits free params 0 k1 one.contents d idle (omega (arith, sum)) (omega (arith, few)) (one.regs 29 (λ z. absurd (omega (arith, z))) ∙ at) (front w k1 (params_code sc params 0) (locals_code sc wanted locals params) behind) in
-      let k2 = k1 + length (params_code sc params 0) in
-      let three = locals_run wanted locals params k2 two.0 d idle sum (two.1.regs 29 (λ z. absurd (omega (arith, z))) (λ z. absurd (omega (arith, z))) ∙ one.regs 29 (λ z. absurd (omega (arith, z))) ∙ at) (back w k1 (params_code sc params 0) (locals_code sc wanted locals params) behind) in
-      let to : ℕ = k + length (save_code sc calling ++ (params_code sc params 0 ++ locals_code sc wanted locals params)) in
-      let len : k2 + length (locals_code sc wanted locals params) ≡ to = omega (arith, length-append (save_code sc calling) (params_code sc params 0 ++ locals_code sc wanted locals params), length-append (params_code sc params 0) (locals_code sc wanted locals params)) in
+      let a = save_code st calling in
+      let b = params_code st params 0 in
+      let l = locals_code st wanted locals params in
+      let one = saves calling k c d idle (omega (arith, sum)) at (front w k (save_code st calling) (params_code st params 0 ++ locals_code st wanted locals params) code) in
+      let behind = back w k (save_code st calling) (params_code st params 0 ++ locals_code st wanted locals params) code in
+      let k1 = k + length (save_code st calling) in
+      let two = params_run compose w sound straight jumps st e inside small fits free params 0 k1 one.contents d idle (omega (arith, sum)) (omega (arith, few)) (one.regs 29 (λ z. absurd (omega (arith, z))) ∙ at) (front w k1 (params_code st params 0) (locals_code st wanted locals params) behind) in
+      let k2 = k1 + length (params_code st params 0) in
+      let three = locals_run wanted locals params k2 two.0 d idle sum (two.1.regs 29 (λ z. absurd (omega (arith, z))) (λ z. absurd (omega (arith, z))) ∙ one.regs 29 (λ z. absurd (omega (arith, z))) ∙ at) (back w k1 (params_code st params 0) (locals_code st wanted locals params) behind) in
+      let to : ℕ = k + length (save_code st calling ++ (params_code st params 0 ++ locals_code st wanted locals params)) in
+      let len : k2 + length (locals_code st wanted locals params) ≡ to = omega (arith, length-append (save_code st calling) (params_code st params 0 ++ locals_code st wanted locals params), length-append (params_code st params 0) (locals_code st wanted locals params)) in
       let way12 = on runs w 0 one.most 0 (3 * params) (at_with k c d) (at_with k1 one.contents d) (at_with k2 two.0 d) (of runs w one.most _ _ one.run) (of runs w (3 * params) _ _ two.2) in
       let few1 = one.few in
       let few3 = three.few in
-      let way = on runs w (0 + 0) (one.most + 3 * params) three.least three.most (at_with k c d) (at_with k2 two.0 d) (at_with (k2 + length (locals_code sc wanted locals params)) three.contents d) way12 three.way in
+      let way = on runs w (0 + 0) (one.most + 3 * params) three.least three.most (at_with k c d) (at_with k2 two.0 d) (at_with (k2 + length (locals_code st wanted locals params)) three.contents d) way12 three.way in
       record {
         contents = three.contents;
         made = record {
-          saved = λ q. three.cleared.others (e - sc.frame) (inl (omega arith)) ∙ two.1.others (e - sc.frame) (inl (omega arith)) ∙ one.is q;
+          saved = λ q. three.cleared.others (e - st.frame) (inl (omega arith)) ∙ two.1.others (e - st.frame) (inl (omega arith)) ∙ one.is q;
           arguments = λ j lt.
-              let here : (e - sc.frame) + 3 + j ≡ (e - sc.frame) + 3 + 0 + j = omega arith in
-              three.cleared.others ((e - sc.frame) + 3 + j) (inl (omega (arith, lt))) ∙ ap two.0.memory here ∙ two.1.words j lt ∙ ap one.contents.regs (omega arith) ∙ one.regs (20 + j) (λ z. absurd (omega (arith, z)));
+              let here : (e - st.frame) + 3 + j ≡ (e - st.frame) + 3 + 0 + j = omega arith in
+              three.cleared.others ((e - st.frame) + 3 + j) (inl (omega (arith, lt))) ∙ ap two.0.memory here ∙ two.1.words j lt ∙ ap one.contents.regs (omega arith) ∙ one.regs (20 + j) (λ z. absurd (omega (arith, z)));
           zeros = λ j lt wants. three.cleared.words j lt wants;
           others = λ x side. elim side [
             | inl lt ↦ three.cleared.others x (inl (omega (arith, lt))) ∙ two.1.others x (inl (omega (arith, lt))) ∙ one.others x (λ q. absurd (omega (arith, lt, q)))
@@ -177,8 +177,8 @@ module _ (compose : RunsCompose) (w : World) (sound : Sound w) (straight : Strai
 
 -- the law of the frames' begin
 pub frames_made : (compose : RunsCompose) (w : World) (sound : Sound w) (straight : StraightRuns w) (jumps : JumpsLead w) (runs : RunLaws) → FramesAreMade w
-frames_made compose w sound straight jumps runs sc e has calling wanted params locals k c d idle sum few at code =
-    let fr = frames compose w sound straight jumps runs sc e has.inside has.small has.fits has.free calling wanted params locals k c d idle sum few at code in
+frames_made compose w sound straight jumps runs st e has calling wanted params locals k c d idle sum few at code =
+    let fr = frames compose w sound straight jumps runs st e has.inside has.small has.fits has.free calling wanted params locals k c d idle sum few at code in
     let le = fr.way.high in
     let most = fr.few in
     (fr.contents, fr.made, record { steps = fr.way.own; within = omega (arith, le, most); run = fr.way.run })

@@ -11,8 +11,8 @@ use Rattle.c0_meaning.specs.Numbered.{IsNumbered, AreNumbered, a_statement}
 use Rattle.c0_meaning.specs.Running.{Work, push}
 use Rattle.std.specs.Prelude.{IsTrue}
 use Rattle.std.proofs.lemmas.Bool.{and_parts}
-use Rattle.c0_expr_code.specs.Scope.{is_free_of_calls, are_free_of_calls}
-use Rattle.c0_stmt_code.specs.Code.{is_calling, are_calling, calls_in, skip, stmt_code, stmts_code}
+use Rattle.c0_typed.specs.Leaf.{are_calling, are_free_of_calls, calls_in, is_calling, is_free_of_calls}
+use Rattle.c0_stmt_code.specs.Code.{skip, stmt_code, stmts_code}
 use Rattle.c0_stmt_code.specs.Ahead.{Activation, Text, body_env, MAX_NODES, Skips, Block, Ahead}
 use Rattle.c0_stmt_code.proofs.RunStretches.{Stretch, none, on, within, away}
 

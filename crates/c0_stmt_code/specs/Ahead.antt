@@ -10,10 +10,11 @@ use Rattle.c0_meaning.specs.Limits.{locals_of}
 use Rattle.c0_meaning.specs.Statement.{MAX_NEED, new_need}
 use Rattle.c0_meaning.specs.Numbered.{IsNumberedLeft, IsNumberedTest, IsNumbered, AreNumbered}
 use Rattle.c0_meaning.specs.Running.{Target, into, outward, Work, act_on, again, leave}
-use Rattle.c0_expr_code.specs.Scope.{Scope, is_free_of_calls, are_free_of_calls}
+use Rattle.c0_typed.specs.Leaf.{are_calling, are_free_of_calls, calls_in, is_calling, is_free_of_calls}
+use Rattle.c0_expr_code.specs.Scope.{Scope}
 use Rattle.c0_expr_code.specs.Reads.{reads, Covers}
 use Rattle.c0_stmt_code.specs.Live.{live_at_place, is_live, are_live}
-use Rattle.c0_stmt_code.specs.Code.{Links, is_calling, are_calling, skip, answer_code, while_code, stmt_code, stmts_code, return_code, calls_in}
+use Rattle.c0_stmt_code.specs.Code.{Links, skip, answer_code, while_code, stmt_code, stmts_code, return_code}
 
 -- a function that is under way, the word of the code to which it returns, and which of its variables stand in the machine
 pub record Activation : Type 0 where

@@ -1,5 +1,5 @@
 -- The code of statements, of calls and of functions: one fold over the tree. It doesn't depend on where it stands, but for the calls' indices.
-use Rattle.std.specs.Prelude.{ℕ, zero, suc, ◌+◌, ◌-◌, ◌*◌, ◌/◌, ◌%◌, ◌^◌, Bool, true, false, ◌||◌, nat_lt, nat_le, max, if◌then◌else◌, List, [], ◌∷◌, ◌++◌, length, map, slice_index, Option, Some, None}
+use Rattle.std.specs.Prelude.{ℕ, zero, suc, ◌+◌, ◌-◌, ◌*◌, ◌/◌, ◌%◌, ◌^◌, Bool, true, false, nat_lt, nat_le, max, if◌then◌else◌, List, [], ◌∷◌, ◌++◌, length, map, slice_index, Option, Some, None}
 use Rattle.mips_table.specs.declared.inst.Inst.{Inst}
 use Rattle.mips_table.specs.declared.inst.Inst.TheVariants.{Addu, Sltu, J, Jal, Jr, Beq, Bne, Addiu, Lw, Sw}
 use Rattle.masm.specs.declared.registers.CodeAddresses.{CodeAddresses}
@@ -11,8 +11,10 @@ use Rattle.c0_meaning.specs.Ty.{ty_of}
 use Rattle.c0_meaning.specs.Env.{typed_of}
 use Rattle.c0_meaning.specs.Words.{words, all_words}
 use Rattle.c0_meaning.specs.Operators.{StackOut}
+use Rattle.c0_typed.specs.Leaf.{are_calling}
 use Rattle.c0_expr_code.specs.Scope.{Scope}
-use Rattle.c0_expr_code.specs.Code.{AddressingMode, Made, frame_back, register_of_variable, constant_code, access_code, operand_code, operand_register, made, value_code}
+use Rattle.c0_expr_code.specs.FrameSetting.{FrameSetting, frame_back, frame_setting}
+use Rattle.c0_expr_code.specs.Code.{AddressingMode, Made, register_of_variable, constant_code, access_code, operand_code, operand_register, made, value_code}
 use Rattle.c0_expr_code.specs.Test.{test_code}
 use Rattle.c0_asm_body.specs.Code.{asm_code}
 use Rattle.c0_stmt_code.specs.Live.{is_cleared}
@@ -104,22 +106,9 @@ abbrev mutual
   stmts_code sc x done = []
   stmts_code sc x (next s rest) = stmt_code sc x s ++ stmts_code sc x rest
 
--- whether a statement calls a function or a primitive, or makes an object, so that its code writes the return register; and of statements
-abbrev mutual
-  pub is_calling : CStmt → Bool
-  is_calling (assign s p v) = false
-  is_calling (call s p cs f args) = true
-  is_calling (new s p t ts) = true
-  is_calling (choice s t a b) = are_calling a || are_calling b
-  is_calling (loop s t b) = are_calling b
-
-  pub are_calling : CStmts → Bool
-  are_calling done = false
-  are_calling (next s rest) = is_calling s || are_calling rest
-
 -- the frame's word of a number: register 29 is the frame's end
-abbrev pub frame_slot : Scope → ℕ → AddressingMode
-frame_slot sc i = record { code = []; base = FRAME_END; displacement = (frame_back sc + 4 * i) % 2 ^ 32 }
+abbrev pub frame_slot : FrameSetting → ℕ → AddressingMode
+frame_slot st i = record { code = []; base = FRAME_END; displacement = (frame_back st + 4 * i) % 2 ^ 32 }
 
 -- a register becomes register 29 and so many bytes, modulo 2 ^ 32
 abbrev pub end_code : (d bytes : ℕ) → List Inst
@@ -130,41 +119,41 @@ abbrev pub MAX_STACK : ℕ
 MAX_STACK = 262144
 
 -- no stack has room for a frame that is larger than the largest
-abbrev pub large_code : Scope → List Inst
-large_code sc = if nat_lt MAX_STACK sc.frame then J (sc.exit StackOut) ∷ [] else []
+abbrev pub large_code : FrameSetting → List Inst
+large_code st = if nat_lt MAX_STACK st.frame then J (st.exit StackOut) ∷ [] else []
 
 -- the test of the stack: register d becomes the new frame's end, which must not lie behind the stack's
-abbrev pub stack_test : Scope → ℕ → List Inst
-stack_test sc d = large_code sc ++ (end_code d (4 * sc.frame) ++ (Sltu SCRATCH STACK_END d ∷ Beq SCRATCH 0 1 ∷ J (sc.exit StackOut) ∷ []))
+abbrev pub stack_test : FrameSetting → ℕ → List Inst
+stack_test st d = large_code st ++ (end_code d (4 * st.frame) ++ (Sltu SCRATCH STACK_END d ∷ Beq SCRATCH 0 1 ∷ J (st.exit StackOut) ∷ []))
 
 -- the return address goes to the frame's first word, and comes back from it, where it is written in between
-abbrev pub save_code : Scope → Bool → List Inst
-save_code sc calling = if calling then access_code (λ b k. Sw RETURN b k) SCRATCH (frame_slot sc 0) else []
+abbrev pub save_code : FrameSetting → Bool → List Inst
+save_code st calling = if calling then access_code (λ b k. Sw RETURN b k) SCRATCH (frame_slot st 0) else []
 
-abbrev pub restore_code : Scope → Bool → List Inst
-restore_code sc calling = if calling then access_code (λ b k. Lw RETURN b k) SCRATCH (frame_slot sc 0) else []
+abbrev pub restore_code : FrameSetting → Bool → List Inst
+restore_code st calling = if calling then access_code (λ b k. Lw RETURN b k) SCRATCH (frame_slot st 0) else []
 
 -- so many arguments, of which the first has the number i, go from their registers to the frame, behind its three words
-abbrev pub params_code : Scope → (n i : ℕ) → List Inst
-params_code sc zero i = []
-params_code sc (suc n) i = access_code (λ b k. Sw (register_of_variable i) b k) SCRATCH (frame_slot sc (3 + i)) ++ params_code sc n (suc i)
+abbrev pub params_code : FrameSetting → (n i : ℕ) → List Inst
+params_code st zero i = []
+params_code st (suc n) i = access_code (λ b k. Sw (register_of_variable i) b k) SCRATCH (frame_slot st (3 + i)) ++ params_code st n (suc i)
 
 -- the frame's word of number i behind its three words becomes 0, where that is asked
-abbrev pub zero_code : Scope → (cleared : Bool) → ℕ → List Inst
-zero_code sc cleared i = if cleared then access_code (λ b k. Sw 0 b k) SCRATCH (frame_slot sc (3 + i)) else []
+abbrev pub zero_code : FrameSetting → (cleared : Bool) → ℕ → List Inst
+zero_code st cleared i = if cleared then access_code (λ b k. Sw 0 b k) SCRATCH (frame_slot st (3 + i)) else []
 
 -- of so many of these words, of which the first has the number i, those become 0 that are to be cleared
-abbrev pub zeros_code : Scope → (cleared : ℕ → Bool) → (n i : ℕ) → List Inst
-zeros_code sc cleared zero i = []
-zeros_code sc cleared (suc n) i = zero_code sc (cleared i) i ++ zeros_code sc cleared n (suc i)
+abbrev pub zeros_code : FrameSetting → (cleared : ℕ → Bool) → (n i : ℕ) → List Inst
+zeros_code st cleared zero i = []
+zeros_code st cleared (suc n) i = zero_code st (cleared i) i ++ zeros_code st cleared n (suc i)
 
 -- the frame's words from number i behind its three words to its end become 0, in a loop
-abbrev pub zeros_loop : Scope → ℕ → List Inst
-zeros_loop sc i = access_code (λ b k. Addiu ANSWER b k) ANSWER (frame_slot sc (3 + i)) ++ (Sw 0 ANSWER 0 ∷ Addiu ANSWER ANSWER 4 ∷ Bne ANSWER FRAME_END 65533 ∷ [])
+abbrev pub zeros_loop : FrameSetting → ℕ → List Inst
+zeros_loop st i = access_code (λ b k. Addiu ANSWER b k) ANSWER (frame_slot st (3 + i)) ++ (Sw 0 ANSWER 0 ∷ Addiu ANSWER ANSWER 4 ∷ Bne ANSWER FRAME_END 65533 ∷ [])
 
 -- the locals' words, of which there are n, from number i behind the frame's three words to its end: few one by one, those that are to be cleared
-abbrev pub locals_code : Scope → (cleared : ℕ → Bool) → (n i : ℕ) → List Inst
-locals_code sc cleared n i = if nat_le n 8 then zeros_code sc cleared n i else zeros_loop sc i
+abbrev pub locals_code : FrameSetting → (cleared : ℕ → Bool) → (n i : ℕ) → List Inst
+locals_code st cleared n i = if nat_le n 8 then zeros_code st cleared n i else zeros_loop st i
 
 -- the register of the variable of number i becomes 0, where that is asked
 abbrev pub clear_one : (cleared : Bool) → ℕ → List Inst
@@ -176,58 +165,53 @@ clear_code cleared zero i = []
 clear_code cleared (suc n) i = clear_one (cleared i) i ++ clear_code cleared n (suc i)
 
 -- the begin of a function that has a frame: the stack's test, the return address, the parameters and the locals
-abbrev pub frame_entry : Scope → (cleared : ℕ → Bool) → (params locals : ℕ) → Bool → List Inst
-frame_entry sc cleared params locals calling =
-    stack_test sc FRAME_END ++ (save_code sc calling ++ (params_code sc params 0 ++ locals_code sc cleared locals params))
+abbrev pub frame_entry : FrameSetting → (cleared : ℕ → Bool) → (params locals : ℕ) → Bool → List Inst
+frame_entry st cleared params locals calling =
+    stack_test st FRAME_END ++ (save_code st calling ++ (params_code st params 0 ++ locals_code st cleared locals params))
 
 -- the return from it, whose answer is in register 2
-abbrev pub frame_return : Scope → Bool → List Inst
-frame_return sc calling = restore_code sc calling ++ (end_code FRAME_END (frame_back sc) ++ (Jr RETURN ∷ []))
+abbrev pub frame_return : FrameSetting → Bool → List Inst
+frame_return st calling = restore_code st calling ++ (end_code FRAME_END (frame_back st) ++ (Jr RETURN ∷ []))
 
 -- the begin of a function whose variables stand in registers: register 29 stays, and only `new` writes the return register
-abbrev pub register_entry : Scope → (cleared : ℕ → Bool) → (params locals : ℕ) → Bool → List Inst
-register_entry sc cleared params locals calling =
-    stack_test sc SCRATCH ++ ((if calling then Sw RETURN FRAME_END 0 ∷ [] else []) ++ clear_code cleared locals params)
+abbrev pub register_entry : FrameSetting → (cleared : ℕ → Bool) → (params locals : ℕ) → Bool → List Inst
+register_entry st cleared params locals calling =
+    stack_test st SCRATCH ++ ((if calling then Sw RETURN FRAME_END 0 ∷ [] else []) ++ clear_code cleared locals params)
 
 -- the return from it
 abbrev pub register_return : Bool → List Inst
 register_return calling = (if calling then Lw RETURN FRAME_END 0 ∷ [] else []) ++ (Jr RETURN ∷ [])
 
--- the begin of a function with statements, and its return behind its answer's code
-abbrev pub entry_code : Scope → (cleared : ℕ → Bool) → (params : ℕ) → List CDecl → Bool → List Inst
-entry_code sc cleared params locals calling =
-    if sc.in_registers then register_entry sc cleared params (length locals) calling
-    else frame_entry sc cleared params (all_words sc.env.structs (map typed_of locals)) calling
+-- the begin of a function with statements and so many locals of so many words, and its return behind its answer's code
+abbrev pub entry_code : FrameSetting → (cleared : ℕ → Bool) → (params locals words : ℕ) → Bool → List Inst
+entry_code st cleared params locals words calling =
+    if st.in_registers then register_entry st cleared params locals calling else frame_entry st cleared params words calling
 
-abbrev pub exit_code : Scope → Bool → List Inst
-exit_code sc calling = if sc.in_registers then register_return calling else frame_return sc calling
+abbrev pub exit_code : FrameSetting → Bool → List Inst
+exit_code st calling = if st.in_registers then register_return calling else frame_return st calling
 
 -- the answer goes to register 2, and the function returns
 abbrev pub return_code : Scope → Bool → CExpr → List Inst
-return_code sc calling answer = value_code sc answer ANSWER EXPRESSIONS ++ exit_code sc calling
+return_code sc calling answer = value_code sc answer ANSWER EXPRESSIONS ++ exit_code (frame_setting sc) calling
 
 -- a function that has statements
 abbrev pub statements_function : Scope → Links → (params : ℕ) → List CDecl → CStmts → CExpr → List Inst
 statements_function sc x params locals stmts answer =
-    entry_code sc (is_cleared locals stmts answer) params locals (are_calling stmts) ++ (stmts_code sc x stmts ++ return_code sc (are_calling stmts) answer)
+    entry_code (frame_setting sc) (is_cleared locals stmts answer) params (length locals) (all_words sc.env.structs (map typed_of locals)) (are_calling stmts) ++
+    (stmts_code sc x stmts ++ return_code sc (are_calling stmts) answer)
 
 -- a function that has an asm body: it needs no frame, and the stack is tested all the same
-abbrev pub asm_function : Scope → (params : ℕ) → List ℕ → List Inst
-asm_function sc params words = stack_test sc SCRATCH ++ (asm_code params words ++ (Jr RETURN ∷ []))
+abbrev pub asm_function : FrameSetting → (params : ℕ) → List ℕ → List Inst
+asm_function st params words = stack_test st SCRATCH ++ (asm_code params words ++ (Jr RETURN ∷ []))
 
 -- a body's code
 abbrev pub body_code : Scope → Links → ℕ → CBody → List Inst
 body_code sc x params (code locals stmts answer) = statements_function sc x params locals stmts answer
-body_code sc x params (asm text span words) = asm_function sc params words
+body_code sc x params (asm text span words) = asm_function (frame_setting sc) params words
 
 -- a function's code
 abbrev pub function_code : Scope → Links → CFunction → List Inst
 function_code sc x f = body_code sc x (length f.params) f.body
-
--- whether the code of a function's body writes the return register
-abbrev pub calls_in : CBody → Bool
-calls_in (code locals stmts answer) = are_calling stmts
-calls_in (asm text span words) = false
 
 -- the indices of the addresses that a unit's code names
 abbrev pub links_of : CodeAddresses → Links

@@ -1,7 +1,6 @@
 pub mod Ahead
 pub mod Code
 pub mod Emit
-pub mod EmitLeaf
 pub mod Frames
 pub mod Journey
 pub mod Lengths
@@ -12,4 +11,6 @@ pub mod Setup
 pub mod Standing
 pub mod Zeros
 pub mod TypedCode
+pub mod TypedLive
+pub mod TypedFunction
 pub mod TypedLaws

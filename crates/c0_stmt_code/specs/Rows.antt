@@ -2,22 +2,18 @@
 use Rattle.std.specs.Prelude.{◌≡◌, ℕ, Bool, true, false, List, [], ◌∷◌}
 use Rattle.mips_table.specs.declared.inst.Inst.{Inst}
 use Rattle.mips_table.specs.declared.inst.Inst.TheVariants.{Addu, Addiu, Beq, Blez, Bne, J, Jal, Jr, Lw, Ori, Sltu, Sw}
-use Rattle.c0_tree.specs.declared.tree.Span.{Span}
 use Rattle.c0_tree.specs.declared.tree.Kind.TheVariants.{Local, Function}
 use Rattle.c0_tree.specs.declared.tree.BinaryOp.TheVariants.{Gt}
 use Rattle.c0_tree.specs.Tree.{CTy, int, array, num, var, binary, assign, call, choice, done, next, CDecl}
+use Rattle.c0_meaning.specs.Bare.{z}
 use Rattle.c0_meaning.specs.Env.{Typed, typed_of}
 use Rattle.c0_expr_code.specs.Scope.{Scope}
 pub use Rattle.c0_expr_code.specs.Rows.{numbered_name}
 use Rattle.c0_stmt_code.specs.Code.{Links, statements_function}
 
--- a place in a source
-abbrev pub somewhere : Span
-somewhere = record { start = 0; end = 0 }
-
 -- a local of a number, of a type
 abbrev pub local_of : CTy → ℕ → CDecl
-local_of t n = record { ty = t; ty_span = somewhere; name = numbered_name Local n }
+local_of t n = record { ty = t; ty_span = z; name = numbered_name Local n }
 
 -- what the code of a function with these variables depends on, where all faults leave to word 9
 abbrev pub scope_with : List Typed → (in_registers : Bool) → (frame : ℕ) → Scope
@@ -36,15 +32,15 @@ row_links = record { function = λ n. 7; primitive = λ n. 8; new_object = 6 }
 abbrev pub sign_code : List Inst
 sign_code =
     statements_function (scope_with (typed_of (local_of int 0) ∷ typed_of (local_of int 1) ∷ []) true 5) row_links 1 (local_of int 1 ∷ [])
-    (next (choice somewhere (binary somewhere Gt (var (numbered_name Local 0)) (num somewhere 0)) (next (assign somewhere (var (numbered_name Local 1)) (num somewhere 1)) done)
-    (next (assign somewhere (var (numbered_name Local 1)) (num somewhere 0)) done)) done) (var (numbered_name Local 1))
+    (next (choice z (binary z Gt (var (numbered_name Local 0)) (num z 0)) (next (assign z (var (numbered_name Local 1)) (num z 1)) done)
+    (next (assign z (var (numbered_name Local 1)) (num z 0)) done)) done) (var (numbered_name Local 1))
 
 -- `int g(int n) { int[10] a; n = f(n); return n; }`: its frame has 14 words
 abbrev pub calling_code : List Inst
 calling_code =
     statements_function (scope_with (typed_of (local_of int 0) ∷ typed_of (local_of (array int 10) 1) ∷ []) false 14) row_links 1
     (local_of (array int 10) 1 ∷ [])
-    (next (call somewhere (var (numbered_name Local 0)) somewhere (numbered_name Function 0) (var (numbered_name Local 0) ∷ [])) done)
+    (next (call z (var (numbered_name Local 0)) z (numbered_name Function 0) (var (numbered_name Local 0) ∷ [])) done)
     (var (numbered_name Local 0))
 
 -- the code of these functions

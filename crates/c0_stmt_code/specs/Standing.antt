@@ -15,9 +15,10 @@ use Rattle.c0_meaning.specs.Operators.{KernelFault, faulted, stuck}
 use Rattle.c0_meaning.specs.Evaluation.{costs, values_of}
 use Rattle.c0_meaning.specs.Running.{Target, into, outward, Work, act_on, finish, again, leave, begin, Step, Go, Stop, work_step}
 use Rattle.c0_meaning.specs.TypedState.{types_of, Fits, AllFit, store_typing, IsTypedWith, AreDeclared, IsScalar}
+use Rattle.c0_typed.specs.Leaf.{calls_in}
 use Rattle.c0_expr_code.specs.Scope.{Scope, scope_of, exit_of}
 use Rattle.c0_expr_code.specs.Bases.{Bases, words_of_all, locals_start, word_of_scalar, RegionHeld, LocalsHeld}
-use Rattle.c0_stmt_code.specs.Code.{links_of, calls_in}
+use Rattle.c0_stmt_code.specs.Code.{links_of}
 use Rattle.c0_stmt_code.specs.Setup.{Setup, scalar_word, HasReturned, PrimitiveIsCalled}
 use Rattle.c0_stmt_code.specs.Journey.{Led, RunStopped}
 use Rattle.c0_stmt_code.specs.Ahead.{Activation, Text, Awaits, Ahead, AnswerIsLive, WaitingAreLive, AllAreLive}
@@ -40,7 +41,7 @@ IsPrimitiveCall h item number values = ⊥
 module _ (W E : Type 0) (Outer : W → Contents → Behind → Type 0) (z : Setup W E Outer) where
   -- what is the same for all functions
   abbrev pub code_text : Text
-  text = record { w = z.w; table = z.table; unit = z.p.unit; scope = λ f. scope_of z.p.unit f z.addresses; links = links_of z.addresses; back = z.a.back }
+  code_text = record { w = z.w; table = z.table; unit = z.p.unit; scope = λ f. scope_of z.p.unit f z.addresses; links = links_of z.addresses; back = z.a.back }
 
   abbrev pub scope : CFunction → Scope
   scope f = scope_of z.p.unit f z.addresses

@@ -7,32 +7,32 @@ use Rattle.c0_tree.specs.declared.tree.Kind.{Kind}
 use Rattle.c0_typed.specs.Tree.{TExpr, TStmt, assign, call, new, choice, loop, TStmts, done, next}
 use Rattle.c0_expr_code.specs.Code.{constant_code, register_of_variable}
 use Rattle.c0_expr_code.specs.Node.{node_made, node_test}
-use Rattle.c0_expr_code.specs.Setting.{Setting}
+use Rattle.c0_expr_code.specs.FrameSetting.{FrameSetting}
 use Rattle.c0_stmt_code.specs.Code.{Links, assigned_code, callee_index, skip, stored_code}
 
 -- a value, into d, with free registers from r
-abbrev pub typed_value : Setting → TExpr → (d r : ℕ) → List Inst
+abbrev pub typed_value : FrameSetting → TExpr → (d r : ℕ) → List Inst
 typed_value st e d r = (node_made st e).value d r
 
 -- an answer in register 2 goes to a place
-abbrev pub typed_answer : Setting → TExpr → List Inst
+abbrev pub typed_answer : FrameSetting → TExpr → List Inst
 typed_answer st p = stored_code ANSWER EXPRESSIONS (node_made st p).stands (node_made st p).place
 
 -- an assignment
-abbrev pub typed_assign : Setting → TExpr → TExpr → List Inst
+abbrev pub typed_assign : FrameSetting → TExpr → TExpr → List Inst
 typed_assign st p v = assigned_code (node_made st p).stands (node_made st p) (node_made st v)
 
 -- arguments, of which the first has the number i, go to their registers
-abbrev pub typed_args : Setting → List TExpr → (i : ℕ) → List Inst
+abbrev pub typed_args : FrameSetting → List TExpr → (i : ℕ) → List Inst
 typed_args st [] i = []
 typed_args st (e ∷ es) i = typed_value st e (register_of_variable i) EXPRESSIONS ++ typed_args st es (suc i)
 
 -- a call
-abbrev pub typed_call : Setting → Links → Kind → ℕ → List TExpr → TExpr → List Inst
+abbrev pub typed_call : FrameSetting → Links → Kind → ℕ → List TExpr → TExpr → List Inst
 typed_call st x kind n args p = typed_args st args 0 ++ (Jal (callee_index x kind n) ∷ typed_answer st p)
 
 -- `new` of so many words
-abbrev pub typed_new : Setting → Links → ℕ → TExpr → List Inst
+abbrev pub typed_new : FrameSetting → Links → ℕ → TExpr → List Inst
 typed_new st x n p = constant_code ANSWER (n % 2 ^ 32) ++ (Jal x.new_object ∷ typed_answer st p)
 
 -- the other branch of an `if`, where there is one: the first jumps over it
@@ -46,27 +46,27 @@ typed_otherwise_at done = 0
 typed_otherwise_at (next s rest) = 1
 
 -- an `if`, by the code of its branches
-abbrev pub typed_choice : Setting → TExpr → TStmts → (yes_code no_code : List Inst) → List Inst
+abbrev pub typed_choice : FrameSetting → TExpr → TStmts → (yes_code no_code : List Inst) → List Inst
 typed_choice st t b yes_code no_code =
     node_test st t false ((length yes_code + typed_otherwise_at b) % 2 ^ 16) EXPRESSIONS ++ (yes_code ++ typed_otherwise b no_code)
 
 -- the distance back from the end of a loop's test to its body, or to the jump before it where there is no body
-abbrev pub typed_back : Setting → TExpr → List Inst → ℕ
+abbrev pub typed_back : FrameSetting → TExpr → List Inst → ℕ
 typed_back st t body = (2 ^ 16 - (max (length body) 1 + length (node_test st t true 0 EXPRESSIONS)) % 2 ^ 16) % 2 ^ 16
 
 -- a loop, by the code of its body: the test stands behind it
-abbrev pub typed_while : Setting → TExpr → List Inst → List Inst
+abbrev pub typed_while : FrameSetting → TExpr → List Inst → List Inst
 typed_while st t body = skip (length body) ∷ (body ++ node_test st t true (typed_back st t body) EXPRESSIONS)
 
 -- a statement, and statements one after another
 abbrev mutual
-  pub typed_stmt_code : Setting → Links → TStmt → List Inst
+  pub typed_stmt_code : FrameSetting → Links → TStmt → List Inst
   typed_stmt_code st x (assign p v) = typed_assign st p v
   typed_stmt_code st x (call k n args p) = typed_call st x k n args p
   typed_stmt_code st x (new w p) = typed_new st x w p
   typed_stmt_code st x (choice t a b) = typed_choice st t b (typed_stmts_code st x a) (typed_stmts_code st x b)
   typed_stmt_code st x (loop t b) = typed_while st t (typed_stmts_code st x b)
 
-  pub typed_stmts_code : Setting → Links → TStmts → List Inst
+  pub typed_stmts_code : FrameSetting → Links → TStmts → List Inst
   typed_stmts_code st x done = []
   typed_stmts_code st x (next s rest) = typed_stmt_code st x s ++ typed_stmts_code st x rest

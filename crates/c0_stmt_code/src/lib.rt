@@ -2,16 +2,13 @@
 #![tactic(auto)]
 
 mod acts;
-mod calling;
-pub mod emit_laws;
+mod emit_laws;
 mod function;
 pub mod laws;
 mod live;
 mod prologue;
-mod sequence;
 pub mod sizes;
 mod statement;
 pub mod typed_laws;
 
 pub use function::emit_function;
-pub use sequence::emit_statements;

@@ -1,23 +1,20 @@
 // How functions begin and return.
 
-ghost use Rattle.std.specs.Prelude.{◌≡◌, ◌+◌, ◌*◌, ◌%◌, ◌^◌, ◌<◌, ◌∷◌, [], length, map, if◌then◌else◌};
+ghost use Rattle.std.specs.Prelude.{◌≡◌, ◌+◌, ◌*◌, ◌%◌, ◌^◌, ◌<◌, ◌∷◌, [], length, if◌then◌else◌};
 ghost use Rattle.mips_table.specs.declared.inst.Inst.TheVariants.{Addiu, Beq, Bne, J, Sltu, Sw};
-ghost use Rattle.c0_tree.specs.View.{decl_view};
-ghost use Rattle.c0_meaning.specs.Env.{typed_of};
 ghost use Rattle.c0_meaning.specs.Operators.{StackOut};
-ghost use Rattle.c0_meaning.specs.Words.{all_words};
 ghost use Rattle.c0_expr_code.specs.Code as expressions;
 ghost use Rattle.c0_expr_code.specs.Code.{access_code};
 ghost use Rattle.c0_expr_code.specs.Emit.{Appends, access_inst};
-ghost use Rattle.c0_expr_code.specs.Scene.{scope_in};
+ghost use Rattle.c0_expr_code.specs.SettingIn.{setting_in};
 ghost use Rattle.c0_stmt_code.specs.Code.{clear_code, clear_one, end_code, exit_code, frame_entry, frame_return, frame_slot, large_code, locals_code};
 ghost use Rattle.c0_stmt_code.specs.Code.{params_code, register_return, stack_test, zero_code, zeros_code, zeros_loop};
-ghost use Rattle.c0_stmt_code.specs.EmitLeaf.{FramesAreThose, HasFrameWords, cleared_in, entry_in, kept_code, register_entry_in};
+ghost use Rattle.c0_stmt_code.specs.Emit.{cleared_in, entry_in, kept_code, register_entry_in};
+ghost use Rattle.c0_stmt_code.specs.TypedFunction.{HasFrame};
 
 use crate::live::is_cleared;
-use c0_expr_code::{Access, Address, Scene, emit, emit_access, frame_displacement};
-use c0_meaning::laws::{numbers_tell, units_are_typed_or_faulty};
-use c0_tree::Code;
+use c0_expr_code::{Access, Address, CodeSetting, emit, emit_access, frame_bytes};
+use c0_typed::TypedCode;
 use masm::registers::{ANSWER, ARGUMENTS, FRAME_END, RETURN, SCRATCH, STACK_END};
 use mips_table::Inst;
 use std::alloc::AllocError;
@@ -28,17 +25,9 @@ const LARGEST_STACK: u64 = 262_144;
 // The words of a function's locals that are set to 0 by a store each; more are in a loop.
 const FEW_WORDS: u64 = 8;
 
-/// A law: a frame has three words of its own, one for each parameter, and those of the locals.
-pub fn frames_are_those()
-    ensures { FramesAreThose }
-{
-    numbers_tell();
-    units_are_typed_or_faulty();
-}
-
 // Appends the access to a word of the frame.
 fn emit_word(
-    scene: &Scene<'_>,
+    setting: &CodeSetting,
     access: Access,
     register: u32,
     free: u32,
@@ -47,11 +36,11 @@ fn emit_word(
 ) -> Result<(), AllocError>
     requires register { register < 32 }
     requires free { free < 32 }
-    ensures { Appends code.old.items code.new.items (access_code (access_inst access register) free (frame_slot (scope_in scene.now) word)) result }
+    ensures { Appends code.old.items code.new.items (access_code (access_inst access register) free (frame_slot (setting_in setting.now) word)) result }
 {
     let address = Address {
         base: FRAME_END,
-        displacement: frame_displacement(scene, word),
+        displacement: frame_bytes(setting, word),
     };
     emit_access(code, access, register, free, address)
 }
@@ -64,26 +53,26 @@ fn bytes(words: u64) -> u32
 }
 
 // Appends the code that brings the end of the next frame into a register.
-fn emit_end(scene: &Scene<'_>, target: u32, code: &mut Vec<u32>) -> Result<(), AllocError>
+fn emit_end(setting: &CodeSetting, target: u32, code: &mut Vec<u32>) -> Result<(), AllocError>
     requires { target < 32 }
-    ensures { Appends code.old.items code.new.items (end_code target (4 * (scope_in scene.now).frame)) result }
+    ensures { Appends code.old.items code.new.items (end_code target (4 * (setting_in setting.now).frame)) result }
 {
     let address = Address {
         base: FRAME_END,
-        displacement: bytes(scene.frame),
+        displacement: bytes(setting.frame),
     };
     emit_access(code, Access::Address, target, target, address)
 }
 
 // Appends a jump to the exit of a want of stack, where no stack has room for the frame.
-fn emit_large(scene: &Scene<'_>, code: &mut Vec<u32>) -> Result<(), AllocError>
-    ensures { Appends code.old.items code.new.items (large_code (scope_in scene.now)) result }
+fn emit_large(setting: &CodeSetting, code: &mut Vec<u32>) -> Result<(), AllocError>
+    ensures { Appends code.old.items code.new.items (large_code (setting_in setting.now)) result }
 {
-    if LARGEST_STACK < scene.frame {
+    if LARGEST_STACK < setting.frame {
         return emit(
             code,
             Inst::J {
-                index: scene.exits.stack / 4,
+                index: setting.exits.stack / 4,
             },
         );
     }
@@ -91,9 +80,9 @@ fn emit_large(scene: &Scene<'_>, code: &mut Vec<u32>) -> Result<(), AllocError>
 }
 
 // Appends a jump to the exit of a want of stack, and a branch over it where a register is not behind the stack's end.
-fn emit_limit(scene: &Scene<'_>, end: u32, code: &mut Vec<u32>) -> Result<(), AllocError>
+fn emit_limit(setting: &CodeSetting, end: u32, code: &mut Vec<u32>) -> Result<(), AllocError>
     requires { end < 32 }
-    ensures { Appends code.old.items code.new.items (Sltu SCRATCH STACK_END end ∷ Beq SCRATCH 0 1 ∷ J ((scope_in scene.now).exit StackOut) ∷ []) result }
+    ensures { Appends code.old.items code.new.items (Sltu SCRATCH STACK_END end ∷ Beq SCRATCH 0 1 ∷ J ((setting_in setting.now).exit StackOut) ∷ []) result }
 {
     emit(
         code,
@@ -114,36 +103,36 @@ fn emit_limit(scene: &Scene<'_>, end: u32, code: &mut Vec<u32>) -> Result<(), Al
     emit(
         code,
         Inst::J {
-            index: scene.exits.stack / 4,
+            index: setting.exits.stack / 4,
         },
     )
 }
 
 /// Appends the test of the stack, which brings the end of the new frame into a register.
 pub fn emit_stack_test(
-    scene: &Scene<'_>,
+    setting: &CodeSetting,
     register: u32,
     code: &mut Vec<u32>,
 ) -> Result<(), AllocError>
     requires { register < 32 }
-    ensures { Appends code.old.items code.new.items (stack_test (scope_in scene.now) register) result }
+    ensures { Appends code.old.items code.new.items (stack_test (setting_in setting.now) register) result }
 {
-    emit_large(scene, code)?;
-    emit_end(scene, register, code)?;
-    emit_limit(scene, register, code)
+    emit_large(setting, code)?;
+    emit_end(setting, register, code)?;
+    emit_limit(setting, register, code)
 }
 
 // Appends the access to the frame's first word, which keeps the return address where something is called.
 fn emit_kept(
-    scene: &Scene<'_>,
+    setting: &CodeSetting,
     access: Access,
     calling: bool,
     code: &mut Vec<u32>,
 ) -> Result<(), AllocError>
-    ensures { Appends code.old.items code.new.items (kept_code (scope_in scene.now) access calling) result }
+    ensures { Appends code.old.items code.new.items (kept_code (setting_in setting.now) access calling) result }
 {
     if calling {
-        return emit_word(scene, access, RETURN, SCRATCH, 0, code);
+        return emit_word(setting, access, RETURN, SCRATCH, 0, code);
     }
     Ok(())
 }
@@ -157,13 +146,13 @@ pub fn register_behind(first: u32, i: u64) -> u32
 }
 
 // Appends the stores of the arguments to the frame.
-fn emit_params(scene: &Scene<'_>, count: u32, code: &mut Vec<u32>) -> Result<(), AllocError>
-    ensures { Appends code.old.items code.new.items (params_code (scope_in scene.now) count 0) result }
+fn emit_params(setting: &CodeSetting, count: u32, code: &mut Vec<u32>) -> Result<(), AllocError>
+    ensures { Appends code.old.items code.new.items (params_code (setting_in setting.now) count 0) result }
 {
     for i in 0..count {
         let register = register_behind(i, 0);
         emit_word(
-            scene,
+            setting,
             Access::Store,
             register,
             SCRATCH,
@@ -176,44 +165,44 @@ fn emit_params(scene: &Scene<'_>, count: u32, code: &mut Vec<u32>) -> Result<(),
 
 // Appends the store of 0 to the word of a variable's number, where that is asked.
 fn emit_zero(
-    scene: &Scene<'_>,
+    setting: &CodeSetting,
     cleared: bool,
     variable: u64,
     code: &mut Vec<u32>,
 ) -> Result<(), AllocError>
     requires { 3 + variable < 2 ^ 64 }
-    ensures { Appends code.old.items code.new.items (zero_code (scope_in scene.now) cleared variable) result }
+    ensures { Appends code.old.items code.new.items (zero_code (setting_in setting.now) cleared variable) result }
 {
     if cleared {
-        return emit_word(scene, Access::Store, 0, SCRATCH, 3 + variable, code);
+        return emit_word(setting, Access::Store, 0, SCRATCH, 3 + variable, code);
     }
     Ok(())
 }
 
 // Appends stores of 0 to the words of variables that are to be cleared.
 fn emit_zeros(
-    scene: &Scene<'_>,
-    body: &Code,
+    setting: &CodeSetting,
+    body: &TypedCode,
     count: u64,
     first: u64,
     code: &mut Vec<u32>,
 ) -> Result<(), AllocError>
     requires { 3 + first + count < 2 ^ 64 }
-    ensures { Appends code.old.items code.new.items (zeros_code (scope_in scene.now) (cleared_in body.now) count first) result }
+    ensures { Appends code.old.items code.new.items (zeros_code (setting_in setting.now) (cleared_in body.now) count first) result }
 {
     for i in 0..count {
         let cleared = is_cleared(body, first + i);
-        emit_zero(scene, cleared, first + i, code)?;
+        emit_zero(setting, cleared, first + i, code)?;
     }
     Ok(())
 }
 
 // Appends a loop that stores 0 from the word of a variable's number to the frame's end.
-fn emit_zeros_loop(scene: &Scene<'_>, first: u64, code: &mut Vec<u32>) -> Result<(), AllocError>
+fn emit_zeros_loop(setting: &CodeSetting, first: u64, code: &mut Vec<u32>) -> Result<(), AllocError>
     requires { 3 + first < 2 ^ 64 }
-    ensures { Appends code.old.items code.new.items (zeros_loop (scope_in scene.now) first) result }
+    ensures { Appends code.old.items code.new.items (zeros_loop (setting_in setting.now) first) result }
 {
-    emit_word(scene, Access::Address, ANSWER, ANSWER, 3 + first, code)?;
+    emit_word(setting, Access::Address, ANSWER, ANSWER, 3 + first, code)?;
     emit_turns(code)
 }
 
@@ -249,19 +238,19 @@ fn emit_turns(code: &mut Vec<u32>) -> Result<(), AllocError>
 
 // Appends the code that sets the words of locals to 0.
 fn emit_locals(
-    scene: &Scene<'_>,
-    body: &Code,
+    setting: &CodeSetting,
+    body: &TypedCode,
     count: u64,
     first: u64,
     code: &mut Vec<u32>,
 ) -> Result<(), AllocError>
     requires { 3 + first + count < 2 ^ 64 }
-    ensures { Appends code.old.items code.new.items (locals_code (scope_in scene.now) (cleared_in body.now) count first) result }
+    ensures { Appends code.old.items code.new.items (locals_code (setting_in setting.now) (cleared_in body.now) count first) result }
 {
     if count <= FEW_WORDS {
-        return emit_zeros(scene, body, count, first, code);
+        return emit_zeros(setting, body, count, first, code);
     }
-    emit_zeros_loop(scene, first, code)
+    emit_zeros_loop(setting, first, code)
 }
 
 // Appends the instruction that sets the register of the variable so many behind another to 0, where that is asked.
@@ -282,7 +271,7 @@ fn emit_clear_one(cleared: bool, first: u32, i: u64, code: &mut Vec<u32>) -> Res
 }
 
 // Appends the code that sets the registers of variables to 0 that are to be cleared.
-fn emit_clear(body: &Code, first: u32, code: &mut Vec<u32>) -> Result<(), AllocError>
+fn emit_clear(body: &TypedCode, first: u32, code: &mut Vec<u32>) -> Result<(), AllocError>
     ensures { Appends code.old.items code.new.items (clear_code (cleared_in body.now) (length body.now.locals.items) first) result }
 {
     for i in 0..body.locals.len() {
@@ -308,65 +297,65 @@ fn emit_kept_behind(access: Access, calling: bool, code: &mut Vec<u32>) -> Resul
 
 // Appends the begin of a function that has a frame.
 fn emit_frame_entry(
-    scene: &Scene<'_>,
-    body: &Code,
+    setting: &CodeSetting,
+    body: &TypedCode,
     params: u32,
     words: u64,
     calling: bool,
     code: &mut Vec<u32>,
 ) -> Result<(), AllocError>
     requires { 3 + params + words < 2 ^ 64 }
-    ensures { Appends code.old.items code.new.items (frame_entry (scope_in scene.now) (cleared_in body.now) params words calling) result }
+    ensures { Appends code.old.items code.new.items (frame_entry (setting_in setting.now) (cleared_in body.now) params words calling) result }
 {
-    emit_stack_test(scene, FRAME_END, code)?;
-    emit_kept(scene, Access::Store, calling, code)?;
-    emit_params(scene, params, code)?;
-    emit_locals(scene, body, words, u64::from(params), code)
+    emit_stack_test(setting, FRAME_END, code)?;
+    emit_kept(setting, Access::Store, calling, code)?;
+    emit_params(setting, params, code)?;
+    emit_locals(setting, body, words, u64::from(params), code)
 }
 
 // Appends the begin of a function whose variables stand in registers.
 fn emit_register_entry(
-    scene: &Scene<'_>,
+    setting: &CodeSetting,
     params: u32,
-    body: &Code,
+    body: &TypedCode,
     calling: bool,
     code: &mut Vec<u32>,
 ) -> Result<(), AllocError>
-    ensures { Appends code.old.items code.new.items (register_entry_in scene.now body.now params calling) result }
+    ensures { Appends code.old.items code.new.items (register_entry_in setting.now body.now params calling) result }
 {
-    emit_stack_test(scene, SCRATCH, code)?;
+    emit_stack_test(setting, SCRATCH, code)?;
     emit_kept_behind(Access::Store, calling, code)?;
     emit_clear(body, params, code)
 }
 
 /// Appends the begin of a function that has statements; `calling` tells whether they change the return register.
 pub fn emit_entry(
-    scene: &Scene<'_>,
+    setting: &CodeSetting,
     params: u32,
-    body: &Code,
+    body: &TypedCode,
     calling: bool,
     code: &mut Vec<u32>,
 ) -> Result<(), AllocError>
-    requires { HasFrameWords (scope_in scene.now) params (map decl_view body.now.locals.items) }
-    ensures { Appends code.old.items code.new.items (entry_in scene.now body.now params calling) result }
+    requires { HasFrame params setting.now.frame body.now.locals.items }
+    ensures { Appends code.old.items code.new.items (entry_in setting.now body.now params calling) result }
 {
-    if scene.in_registers {
-        return emit_register_entry(scene, params, body, calling, code);
+    if setting.in_registers {
+        return emit_register_entry(setting, params, body, calling, code);
     }
-    let words = scene.frame - 3 - u64::from(params);
-    emit_frame_entry(scene, body, params, words, calling, code)
+    let words = setting.frame - 3 - u64::from(params);
+    emit_frame_entry(setting, body, params, words, calling, code)
 }
 
 // Appends the return from a function that has a frame.
 fn emit_frame_return(
-    scene: &Scene<'_>,
+    setting: &CodeSetting,
     calling: bool,
     code: &mut Vec<u32>,
 ) -> Result<(), AllocError>
-    ensures { Appends code.old.items code.new.items (frame_return (scope_in scene.now) calling) result }
+    ensures { Appends code.old.items code.new.items (frame_return (setting_in setting.now) calling) result }
 {
-    emit_kept(scene, Access::Load, calling, code)?;
-    emit_word(scene, Access::Address, FRAME_END, FRAME_END, 0, code)?;
+    emit_kept(setting, Access::Load, calling, code)?;
+    emit_word(setting, Access::Address, FRAME_END, FRAME_END, 0, code)?;
     emit(code, Inst::Jr { rs: RETURN })
 }
 
@@ -379,11 +368,15 @@ fn emit_register_return(calling: bool, code: &mut Vec<u32>) -> Result<(), AllocE
 }
 
 /// Appends the return from a function, whose answer is in register 2.
-pub fn emit_exit(scene: &Scene<'_>, calling: bool, code: &mut Vec<u32>) -> Result<(), AllocError>
-    ensures { Appends code.old.items code.new.items (exit_code (scope_in scene.now) calling) result }
+pub fn emit_exit(
+    setting: &CodeSetting,
+    calling: bool,
+    code: &mut Vec<u32>,
+) -> Result<(), AllocError>
+    ensures { Appends code.old.items code.new.items (exit_code (setting_in setting.now) calling) result }
 {
-    if scene.in_registers {
+    if setting.in_registers {
         return emit_register_return(calling, code);
     }
-    emit_frame_return(scene, calling, code)
+    emit_frame_return(setting, calling, code)
 }

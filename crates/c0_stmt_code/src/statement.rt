@@ -1,18 +1,20 @@
 // The code of statements. Where memory is wanting, a part of it may stand behind what stood before.
 
-ghost use Rattle.std.specs.Prelude.{◌≡◌, ◌+◌, ◌^◌, ◌<◌};
+ghost use Rattle.std.specs.Prelude.{◌≡◌, ◌+◌, ◌^◌, ◌<◌, ◌≤◌};
 ghost use Rattle.masm.specs.CodeAddresses.{AreCodeAddresses};
-ghost use Rattle.c0_tree.specs.View.{expr_view, stmt_view, stmts_view};
+ghost use Rattle.c0_typed.specs.Size.{typed_need};
+ghost use Rattle.c0_typed.specs.View.{typed_expr_view, typed_stmt_view, typed_stmts_view};
 ghost use Rattle.c0_expr_code.specs.Emit.{Appends};
-ghost use Rattle.c0_expr_code.specs.Scene.{scope_in};
-ghost use Rattle.c0_stmt_code.specs.Code.{links_of, otherwise_at, stmt_code};
-ghost use Rattle.c0_stmt_code.specs.Emit.{AreEmittable, IsEmittable, choice_in, otherwise_in, skipped_code, stmts_at, while_in};
-ghost use Rattle.c0_stmt_code.specs.EmitLeaf.{CanStand};
+ghost use Rattle.c0_expr_code.specs.SettingIn.{setting_in};
+ghost use Rattle.c0_stmt_code.specs.Code.{links_of};
+ghost use Rattle.c0_stmt_code.specs.Emit.{choice_in, otherwise_in, skipped_code, typed_stmts_in, while_in};
+ghost use Rattle.c0_stmt_code.specs.TypedCode.{typed_otherwise_at, typed_stmt_code};
+ghost use Rattle.c0_stmt_code.specs.TypedFunction.{FitRegisters, FitsRegisters};
 
 use crate::acts::{emit_assign, emit_call, emit_new};
-use c0_expr_code::laws::{jumps_are_within, patches_aim};
-use c0_expr_code::{Scene, emit, emit_test, patch, patch_all};
-use c0_tree::{Expr, Stmt};
+use c0_expr_code::node_laws::node_patches_aim;
+use c0_expr_code::{CodeSetting, emit, emit_test, patch, patch_all};
+use c0_typed::{TypedExpr, TypedStmt};
 use masm::registers::{CodeAddresses, EXPRESSIONS};
 use mips_table::Inst;
 use std::alloc::{AllocError, Global};
@@ -21,34 +23,26 @@ use std::alloc::{AllocError, Global};
 #[cycle(statement)]
 fn emit_statement(
     alloc: Global,
-    scene: &Scene<'_>,
+    setting: &CodeSetting,
     addresses: &CodeAddresses,
-    stmt: &Stmt,
+    stmt: &TypedStmt,
     code: &mut Vec<u32>,
 ) -> Result<(), AllocError>
     requires addresses { AreCodeAddresses addresses.now }
-    requires stmt { IsEmittable (scope_in scene.now).env (stmt_view stmt.now) }
-    ensures { Appends code.old.items code.new.items (stmt_code (scope_in scene.now) (links_of addresses.now) (stmt_view stmt.now)) result }
+    requires stmt { FitsRegisters (typed_stmt_view stmt.now) }
+    ensures { Appends code.old.items code.new.items (typed_stmt_code (setting_in setting.now) (links_of addresses.now) (typed_stmt_view stmt.now)) result }
 {
     match stmt {
-        Stmt::Assign { place, value, .. } => emit_assign(scene, place, value, code),
-        Stmt::Call {
-            place,
-            function,
-            args,
-            ..
-        } => emit_call(
-            scene,
-            addresses,
-            function.kind,
-            function.number,
+        TypedStmt::Assign { place, value } => emit_assign(setting, place, value, code),
+        TypedStmt::Call {
+            kind,
+            number,
             args,
             place,
-            code,
-        ),
-        Stmt::New { place, ty, .. } => emit_new(scene, addresses, ty, place, code),
-        Stmt::If { test, yes, no, .. } => emit_if(alloc, scene, addresses, test, yes, no, code),
-        Stmt::While { test, body, .. } => emit_while(alloc, scene, addresses, test, body, code),
+        } => emit_call(setting, addresses, *kind, *number, args, place, code),
+        TypedStmt::New { words, place } => emit_new(setting, addresses, *words, place, code),
+        TypedStmt::If { test, yes, no } => emit_if(alloc, setting, addresses, test, yes, no, code),
+        TypedStmt::While { test, body } => emit_while(alloc, setting, addresses, test, body, code),
     }
 }
 
@@ -56,17 +50,17 @@ fn emit_statement(
 #[cycle(statement)]
 pub fn emit_statements(
     alloc: Global,
-    scene: &Scene<'_>,
+    setting: &CodeSetting,
     addresses: &CodeAddresses,
-    stmts: &[Stmt],
+    stmts: &[TypedStmt],
     code: &mut Vec<u32>,
 ) -> Result<(), AllocError>
     requires addresses { AreCodeAddresses addresses.now }
-    requires stmts { AreEmittable (scope_in scene.now).env (stmts_view stmts.now) }
-    ensures { Appends code.old.items code.new.items (stmts_at scene.now addresses.now stmts.now) result }
+    requires stmts { FitRegisters (typed_stmts_view stmts.now) }
+    ensures { Appends code.old.items code.new.items (typed_stmts_in setting.now addresses.now stmts.now) result }
 {
     for stmt in stmts {
-        emit_statement(alloc, scene, addresses, stmt, code)?;
+        emit_statement(alloc, setting, addresses, stmt, code)?;
     }
     Ok(())
 }
@@ -75,14 +69,14 @@ pub fn emit_statements(
 #[cycle(statement)]
 fn emit_skipped(
     alloc: Global,
-    scene: &Scene<'_>,
+    setting: &CodeSetting,
     addresses: &CodeAddresses,
-    stmts: &[Stmt],
+    stmts: &[TypedStmt],
     code: &mut Vec<u32>,
 ) -> Result<(), AllocError>
     requires addresses { AreCodeAddresses addresses.now }
-    requires stmts { AreEmittable (scope_in scene.now).env (stmts_view stmts.now) }
-    ensures { Appends code.old.items code.new.items (skipped_code (stmts_at scene.now addresses.now stmts.now)) result }
+    requires stmts { FitRegisters (typed_stmts_view stmts.now) }
+    ensures { Appends code.old.items code.new.items (skipped_code (typed_stmts_in setting.now addresses.now stmts.now)) result }
 {
     let at = code.len();
     emit(
@@ -93,7 +87,7 @@ fn emit_skipped(
             imm: 0,
         },
     )?;
-    emit_statements(alloc, scene, addresses, stmts, code)?;
+    emit_statements(alloc, setting, addresses, stmts, code)?;
     let end = code.len();
     patch(code, at, end);
     Ok(())
@@ -103,25 +97,25 @@ fn emit_skipped(
 #[cycle(statement)]
 fn emit_otherwise(
     alloc: Global,
-    scene: &Scene<'_>,
+    setting: &CodeSetting,
     addresses: &CodeAddresses,
-    no: &[Stmt],
+    no: &[TypedStmt],
     code: &mut Vec<u32>,
 ) -> Result<(), AllocError>
     requires addresses { AreCodeAddresses addresses.now }
-    requires no { AreEmittable (scope_in scene.now).env (stmts_view no.now) }
-    ensures { Appends code.old.items code.new.items (otherwise_in scene.now addresses.now no.now) result }
+    requires no { FitRegisters (typed_stmts_view no.now) }
+    ensures { Appends code.old.items code.new.items (otherwise_in setting.now addresses.now no.now) result }
 {
     if no.is_empty() {
         return Ok(());
     }
-    emit_skipped(alloc, scene, addresses, no, code)
+    emit_skipped(alloc, setting, addresses, no, code)
 }
 
 // Where the other branch of an `if` begins whose first branch ends at a word: behind the jump over it, where there is another branch.
-fn behind_jump(no: &[Stmt], end: usize) -> usize
-    requires { end + otherwise_at (stmts_view no.now) < 2 ^ 64 }
-    ensures { result ≡ end + otherwise_at (stmts_view no.now) }
+fn behind_jump(no: &[TypedStmt], end: usize) -> usize
+    requires { end + typed_otherwise_at (typed_stmts_view no.now) < 2 ^ 64 }
+    ensures { result ≡ end + typed_otherwise_at (typed_stmts_view no.now) }
 {
     if no.is_empty() { end } else { end + 1 }
 }
@@ -130,26 +124,25 @@ fn behind_jump(no: &[Stmt], end: usize) -> usize
 #[cycle(statement)]
 fn emit_if(
     alloc: Global,
-    scene: &Scene<'_>,
+    setting: &CodeSetting,
     addresses: &CodeAddresses,
-    test: &Expr,
-    yes: &[Stmt],
-    no: &[Stmt],
+    test: &TypedExpr,
+    yes: &[TypedStmt],
+    no: &[TypedStmt],
     code: &mut Vec<u32>,
 ) -> Result<(), AllocError>
     requires addresses { AreCodeAddresses addresses.now }
-    requires test { CanStand (scope_in scene.now).env 12 (expr_view test.now) }
-    requires yes { AreEmittable (scope_in scene.now).env (stmts_view yes.now) }
-    requires no { AreEmittable (scope_in scene.now).env (stmts_view no.now) }
-    ensures { Appends code.old.items code.new.items (choice_in scene.now addresses.now test.now yes.now no.now) result }
+    requires test { typed_need (typed_expr_view test.now) ≤ 12 }
+    requires yes { FitRegisters (typed_stmts_view yes.now) }
+    requires no { FitRegisters (typed_stmts_view no.now) }
+    ensures { Appends code.old.items code.new.items (choice_in setting.now addresses.now test.now yes.now no.now) result }
 {
-    patches_aim();
-    jumps_are_within();
+    node_patches_aim();
     let mut jumps = Vec::new(alloc);
-    emit_test(alloc, scene, test, false, EXPRESSIONS, code, &mut jumps)?;
-    emit_statements(alloc, scene, addresses, yes, code)?;
+    emit_test(alloc, setting, test, false, EXPRESSIONS, code, &mut jumps)?;
+    emit_statements(alloc, setting, addresses, yes, code)?;
     let end = code.len();
-    emit_otherwise(alloc, scene, addresses, no, code)?;
+    emit_otherwise(alloc, setting, addresses, no, code)?;
     let to = behind_jump(no, end);
     patch_all(code, &jumps, to);
     Ok(())
@@ -159,24 +152,23 @@ fn emit_if(
 #[cycle(statement)]
 fn emit_while(
     alloc: Global,
-    scene: &Scene<'_>,
+    setting: &CodeSetting,
     addresses: &CodeAddresses,
-    test: &Expr,
-    body: &[Stmt],
+    test: &TypedExpr,
+    body: &[TypedStmt],
     code: &mut Vec<u32>,
 ) -> Result<(), AllocError>
     requires addresses { AreCodeAddresses addresses.now }
-    requires test { CanStand (scope_in scene.now).env 12 (expr_view test.now) }
-    requires body { AreEmittable (scope_in scene.now).env (stmts_view body.now) }
-    ensures { Appends code.old.items code.new.items (while_in scene.now addresses.now test.now body.now) result }
+    requires test { typed_need (typed_expr_view test.now) ≤ 12 }
+    requires body { FitRegisters (typed_stmts_view body.now) }
+    ensures { Appends code.old.items code.new.items (while_in setting.now addresses.now test.now body.now) result }
 {
-    patches_aim();
-    jumps_are_within();
+    node_patches_aim();
     let start = code.len();
-    emit_skipped(alloc, scene, addresses, body, code)?;
+    emit_skipped(alloc, setting, addresses, body, code)?;
     let end = code.len();
     let mut jumps = Vec::new(alloc);
-    emit_test(alloc, scene, test, true, EXPRESSIONS, code, &mut jumps)?;
+    emit_test(alloc, setting, test, true, EXPRESSIONS, code, &mut jumps)?;
     let to = if start + 1 < end { start + 1 } else { start };
     patch_all(code, &jumps, to);
     Ok(())

@@ -19,7 +19,7 @@ use Rattle.c0_typed.specs.Laws.{TreesIgnoreSpans}
 use Rattle.c0_typed.specs.Leaf.{is_free_of_calls, are_free_of_calls, is_leaf, MAX_REGISTER_VARIABLES, keeps_registers, is_calling, are_calling, calls_in}
 use Rattle.c0_typed.specs.Tree.{TExpr, TStmt, TStmts, TFunction}
 use Rattle.c0_typed.specs.Tree as typed
-use Rattle.c0_typed.specs.Typed.{field_bytes, elements_in, written, typed_element, typed_unary, typed_binary, typed_of_expr, typed_of_stmt, typed_of_stmts, typed_of_local, typed_of_body, typed_of_function}
+use Rattle.c0_typed.specs.Typed.{field_bytes, elements_in, written_number, typed_element, typed_unary, typed_binary, typed_of_expr, typed_of_stmt, typed_of_stmts, typed_of_local, typed_of_body, typed_of_function}
 
 place_bare : (e : CExpr) → is_lvalue (bare_expr e) ≡ is_lvalue e
 place_bare (num s n) = refl
@@ -35,7 +35,7 @@ place_bare (address s e) = refl
 place_bare (unary s o e) = refl
 place_bare (binary s o a b) = refl
 
-written_bare : (e : CExpr) → written (bare_expr e) ≡ written e
+written_bare : (e : CExpr) → written_number (bare_expr e) ≡ written_number e
 written_bare (num s n) = refl
 written_bare (true_ s) = refl
 written_bare (false_ s) = refl

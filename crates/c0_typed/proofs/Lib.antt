@@ -1,7 +1,7 @@
-mod Structs
-mod Trees
-mod Functions
+mod StructsByNumber
+mod TreesOfLists
+mod OneFunctionMore
 mod SizedBodies
-mod Numbers
+mod NumbersAreOfValues
 mod BareTrees
-mod Needs
+mod NeedsAreFew

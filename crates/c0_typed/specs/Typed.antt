@@ -30,16 +30,16 @@ abbrev pub entry : List ℕ → ℕ → ℕ
 entry xs n = unwrap_or (slice_get xs n) 0
 
 -- where the value of a number begins, of values of some types one after another, in words from the first one
-abbrev pub begins : List Shape → List Ty → ℕ → ℕ
-begins structs ts n = entry (offsets structs ts) n
+abbrev pub words_ahead : List Shape → List Ty → ℕ → ℕ
+words_ahead structs ts n = entry (offsets structs ts) n
 
 -- a variable, by its kind and number
 abbrev pub typed_variable : Env → Kind → ℕ → TExpr
 typed_variable env kind.Unresolved n = constant 0
 typed_variable env kind.Struct n = constant 0
 typed_variable env kind.Field n = constant 0
-typed_variable env kind.Global n = global (4 * begins env.structs (types_of env.globals) n % 2 ^ 32)
-typed_variable env kind.Local n = local n (begins env.structs (types_of env.locals) n)
+typed_variable env kind.Global n = global (4 * words_ahead env.structs (types_of env.globals) n % 2 ^ 32)
+typed_variable env kind.Local n = local n (words_ahead env.structs (types_of env.locals) n)
 typed_variable env kind.Function n = constant 0
 typed_variable env kind.Primitive n = constant 0
 
@@ -50,7 +50,7 @@ field_types structs _ = []
 
 -- the bytes before the field of a number, where a type is a struct, modulo 2 ^ 32
 abbrev pub field_bytes : List Shape → Option Ty → ℕ → ℕ
-field_bytes structs t n = 4 * begins structs (field_types structs t) n % 2 ^ 32
+field_bytes structs t n = 4 * words_ahead structs (field_types structs t) n % 2 ^ 32
 
 -- the elements, where a type is an array: how many there are, the words of one, up to the cap, and its bytes modulo 2 ^ 32
 abbrev pub elements_in : List Shape → Option Ty → Elements
@@ -58,9 +58,9 @@ elements_in structs (Some (array t n)) = record { count = n; words = capped stru
 elements_in structs _ = record { count = 0; words = 0; bytes = 0 }
 
 -- the number that an expression is written as
-abbrev pub written : CExpr → Option ℕ
-written (num s n) = Some n
-written _ = None
+abbrev pub written_number : CExpr → Option ℕ
+written_number (num s n) = Some n
+written_number _ = None
 
 -- an element of a place: a number below the length needs no test, and leads to a part
 abbrev pub typed_element : Elements → TExpr → TExpr → Option ℕ → TExpr
@@ -102,10 +102,10 @@ typed_of_expr env (null s) = constant 0
 typed_of_expr env (var x) = typed_variable env x.kind x.number
 typed_of_expr env (field s e f) = part (typed_of_expr env e) (field_bytes env.structs (type_at env e) f.number)
 typed_of_expr env (arrow s e f) = part (target (typed_of_expr env e)) (field_bytes env.structs (expression.target (type_at env e)) f.number)
-typed_of_expr env (index s e i) = typed_element (elements_in env.structs (type_at env e)) (typed_of_expr env e) (typed_of_expr env i) (written i)
+typed_of_expr env (index s e i) = typed_element (elements_in env.structs (type_at env e)) (typed_of_expr env e) (typed_of_expr env i) (written_number i)
 typed_of_expr env (deref s e) = target (typed_of_expr env e)
 typed_of_expr env (tree.address s e) = address (typed_of_expr env e)
-typed_of_expr env (unary s o e) = typed_unary o (typed_of_expr env e) (written e)
+typed_of_expr env (unary s o e) = typed_unary o (typed_of_expr env e) (written_number e)
 typed_of_expr env (binary s o a b) = typed_binary o (typed_of_expr env a) (typed_of_expr env b)
 
 -- a statement, and statements one after another

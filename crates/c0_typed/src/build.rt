@@ -13,8 +13,8 @@ use c0_tree::{BinaryOp, Expr, UnaryOp};
 use std::alloc::{AllocError, Global};
 
 /// The number that an expression is written as.
-pub fn written(expr: &Expr) -> Option<u32>
-    ensures { result ≡ spec.written (expr_view expr.now) }
+pub fn written_number(expr: &Expr) -> Option<u32>
+    ensures { result ≡ spec.written_number (expr_view expr.now) }
 {
     match expr {
         Expr::Num(_, number) => Some(*number),

@@ -9,7 +9,7 @@ ghost use Rattle.c0_typed.specs.SeenEnv.{env_seen, unit_seen};
 ghost use Rattle.c0_typed.specs.Typed.{typed_of_expr};
 ghost use Rattle.c0_typed.specs.View.{typed_expr_view};
 
-use crate::build::{address, binary, element, part, target, unary, written};
+use crate::build::{address, binary, element, part, target, unary, written_number};
 use crate::place::{elements_of, field_bytes, target_of, variable};
 use crate::seen_function::SeenFunction;
 use crate::tree::TypedExpr;
@@ -55,13 +55,13 @@ pub fn typed_expr(
             let place = typed_expr(alloc, function, array)?;
             let at = typed_expr(alloc, function, index)?;
             let elements = elements_of(function, type_of(function, array));
-            element(alloc, elements, place, at, written(index))
+            element(alloc, elements, place, at, written_number(index))
         }
         Expr::Deref(_, pointer) => target(alloc, typed_expr(alloc, function, pointer)?),
         Expr::AddressOf(_, place) => address(alloc, typed_expr(alloc, function, place)?),
         Expr::Unary(_, op, operand) => {
             let typed = typed_expr(alloc, function, operand)?;
-            unary(alloc, *op, typed, written(operand))
+            unary(alloc, *op, typed, written_number(operand))
         }
         Expr::Binary(_, op, left, right) => {
             let left = typed_expr(alloc, function, left)?;

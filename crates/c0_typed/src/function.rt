@@ -98,7 +98,7 @@ pub fn typed_function(
     number: u32,
 ) -> Result<TypedFunction, AllocError>
     requires { number < length (unit_view unit.now.unit.now).functions }
-    ensures { OfFunction unit.now number (λ f. IfOk result (λ x. typed_function_view x ≡ typed_of_function (unit_view unit.now.unit.now) f)) }
+    ensures { OfFunction (unit_view unit.now.unit.now) number (λ f. IfOk result (λ x. typed_function_view x ≡ typed_of_function (unit_view unit.now.unit.now) f)) }
 {
     bodies_are_sized();
     well_formed_units_are_sized();

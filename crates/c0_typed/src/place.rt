@@ -12,7 +12,7 @@ ghost use Rattle.c0_meaning.specs.TypedState.{types_of};
 ghost use Rattle.c0_meaning.specs.Words.{words};
 ghost use Rattle.c0_typed.specs.SeenEnv.{env_seen, unit_seen};
 ghost use Rattle.c0_typed.specs.Typed as spec;
-ghost use Rattle.c0_typed.specs.Typed.{begins, elements_in, typed_variable};
+ghost use Rattle.c0_typed.specs.Typed.{words_ahead, elements_in, typed_variable};
 ghost use Rattle.c0_typed.specs.View.{typed_expr_view};
 
 use crate::bytes::{bytes_of, entry, words_to_field};
@@ -31,14 +31,14 @@ fn in_bytes(words: u64) -> u32
 
 // The words before the parameter or local of a number.
 fn words_to_local(function: &SeenFunction<'_>, number: u32) -> u64
-    ensures { result ≡ begins (env_seen function.now).structs (types_of (env_seen function.now).locals) number }
+    ensures { result ≡ words_ahead (env_seen function.now).structs (types_of (env_seen function.now).locals) number }
 {
     entry(&function.variables, number)
 }
 
 // The words before the global of a number.
 fn words_to_global(function: &SeenFunction<'_>, number: u32) -> u64
-    ensures { result ≡ begins (env_seen function.now).structs (types_of (env_seen function.now).globals) number }
+    ensures { result ≡ words_ahead (env_seen function.now).structs (types_of (env_seen function.now).globals) number }
 {
     entry(&function.unit.globals, number)
 }

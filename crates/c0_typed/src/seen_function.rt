@@ -21,7 +21,7 @@ pub struct SeenFunction<'a> {
     /// The words before each parameter and local.
     pub variables: Vec<u64>,
     ghost there: { number < length (unit_view unit.now.unit.now).functions },
-    ghost variables_are: { OfFunction unit.now number (λ f. variables.items ≡ offsets (shapes (unit_view unit.now.unit.now)) (variable_types f)) },
+    ghost variables_are: { OfFunction (unit_view unit.now.unit.now) number (λ f. variables.items ≡ offsets (shapes (unit_view unit.now.unit.now)) (variable_types f)) },
 }
 
 impl<'a> SeenFunction<'a> {

@@ -3,4 +3,5 @@ pub mod OneFunctionMore
 pub mod FlatRun
 pub mod FunctionsInOrder
 pub mod PartsStand
+pub mod TreesOfFunctions
 pub mod UnitAddresses

@@ -33,7 +33,7 @@ are_places (n ∷ ns) at lt =
     let s = sum-cons n ns in
     All-cons (λ a. IsJumpTarget a) (4 * at) (starts_from (at + n) ns) (omega arith, omega (arith, lt)) (are_places ns (at + n) (omega (arith, s, lt)))
 
-some_at : (fs : List CFunction) (n : ℕ) → n < length fs → (f : CFunction) × (slice_get fs n ≡ Some f)
+pub some_at : (fs : List CFunction) (n : ℕ) → n < length fs → (f : CFunction) × (slice_get fs n ≡ Some f)
 some_at [] n lt = absurd (omega (arith, lt))
 some_at (f ∷ fs) zero lt = (f, refl)
 some_at (f ∷ fs) (suc n) lt = some_at fs n (omega (arith, lt))

@@ -10,7 +10,8 @@ use Rattle.c0_meaning.specs.Limits.{all_nodes, words_of_frame}
 use Rattle.c0_meaning.specs.Sound.{shapes}
 use Rattle.c0_meaning.specs.TypeAt.{env_in}
 use Rattle.c0_runtime.specs.declared.runtime.TheConstants.{NEW_OBJECT, MULTIPLY, DIVIDE, REMAINDER}
-use Rattle.c0_expr_code.specs.Scope.{Scope, scope_of, keeps_registers, exit_number}
+use Rattle.c0_typed.specs.Leaf.{keeps_registers}
+use Rattle.c0_expr_code.specs.Scope.{Scope, scope_of, exit_number}
 use Rattle.c0_stmt_code.specs.Code.{Links, links_of, function_code}
 use Rattle.c0_stmt_code.specs.Lengths.{FunctionsAreShort, LengthsAreFixed}
 use Rattle.c0_unit.specs.Code.{fault_exits, primitive_entries, scope, links, no_links, functions_code, words_of_functions, lengths_of, starts_from, function_starts, routines_at, code_words, globals_start}

@@ -14,7 +14,8 @@ use Rattle.c0_meaning.specs.TypeAt.{env_in}
 use Rattle.c0_runtime.specs.declared.entry.TheConstants.{ENTRY_WORDS}
 use Rattle.c0_runtime.specs.declared.runtime.TheConstants.{NEW_OBJECT, RUNTIME_WORDS}
 use Rattle.c0_runtime.specs.Code.{startup_code, new_routine, multiply_code, divide_code, remainder_code}
-use Rattle.c0_expr_code.specs.Scope.{Scope, keeps_registers, exit_number}
+use Rattle.c0_typed.specs.Leaf.{keeps_registers}
+use Rattle.c0_expr_code.specs.Scope.{Scope, exit_number}
 use Rattle.c0_stmt_code.specs.Code.{Links, function_code}
 
 -- where faults leave the code: a use of null, an index out of bounds, a division by zero and a want of stack

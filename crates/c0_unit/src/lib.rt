@@ -5,6 +5,7 @@ mod functions;
 mod globals;
 pub mod laws;
 mod placing;
+mod typed;
 mod whole;
 
 pub use globals::global_words;

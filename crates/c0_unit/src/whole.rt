@@ -11,7 +11,7 @@ ghost use Rattle.c0_unit.specs.Laws.{AreAddressesOf};
 use crate::functions::emit_functions;
 use crate::laws::{programs_run_flat, units_are_short};
 use crate::placing::placed_at;
-use c0_expr_code::Layout;
+use crate::typed::TypedUnit;
 use c0_meaning::{Checked, Measured, UserChecked};
 use c0_runtime::entry::ENTRY_WORDS;
 use c0_runtime::runtime::RUNTIME_WORDS;
@@ -25,16 +25,16 @@ use std::vec::Vec;
 // as no code's length hangs on them.
 fn unit_addresses(
     alloc: Global,
-    layout: &Layout<'_>,
+    typed: &TypedUnit<'_>,
     first: u32,
 ) -> Result<CodeAddresses, AllocError>
-    requires { first ≤ length (unit_view layout.now.unit.now).functions }
-    ensures placed { IfOk result (λ p. AreAddressesOf (unit_view layout.now.unit.now) first p) }
+    requires { first ≤ length (unit_view typed.now).functions }
+    ensures placed { IfOk result (λ p. AreAddressesOf (unit_view typed.now) first p) }
     ensures addresses { IfOk result AreCodeAddresses }
 {
     let unplaced = placed_at(alloc, Vec::new(alloc), LAYER_WORDS, 0)?;
     let mut code = vec![in alloc; 0; ENTRY_WORDS as usize]?;
-    let starts = emit_functions(alloc, layout, &unplaced, first, &mut code)?;
+    let starts = emit_functions(alloc, typed, &unplaced, first, &mut code)?;
     let routines = LAYER_WORDS + code.len() as u32;
     placed_at(
         alloc,
@@ -51,11 +51,11 @@ fn compile_from(alloc: Global, unit: &Measured<'_>, first: u32) -> Result<Vec<u3
     ensures few { IfOk result (λ v. length v.items ≤ 512 + 32 * all_nodes (unit_view unit.now).functions) }
 {
     units_are_short();
-    let layout = Layout::new(alloc, unit)?;
-    let addresses = unit_addresses(alloc, &layout, first)?;
+    let typed = TypedUnit::new(alloc, unit)?;
+    let addresses = unit_addresses(alloc, &typed, first)?;
     let mut code = Vec::new(alloc);
     emit_entry(alloc, addresses.globals, &mut code)?;
-    let _starts = emit_functions(alloc, &layout, &addresses, first, &mut code)?;
+    let _starts = emit_functions(alloc, &typed, &addresses, first, &mut code)?;
     emit_runtime(alloc, &addresses, &mut code)?;
     Ok(code)
 }

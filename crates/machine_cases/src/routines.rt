@@ -3,7 +3,6 @@
 use c0_asm_body::emit_asm;
 use c0_runtime::emit_runtime;
 use c0_runtime::runtime::{DIVIDE, MULTIPLY, REMAINDER, RUNTIME_WORDS};
-use c0_tree::{AsmText, Span};
 use masm::copying::copy_words;
 use masm::registers::{ANSWER, ARGUMENTS, CodeAddresses, RETURN, SCRATCH};
 use masm::roles::{T0, T1, ZERO};
@@ -91,15 +90,10 @@ fn put_answer(
     writeln!(out, "{name} {:08x} {:08x} {:08x}", left, right, answer)
 }
 
-// Prints the word of an asm text.
+// Prints the word of `addu r2, r4, r5`.
 fn put_asm(out: &mut String, alloc: Global) -> Result<(), AllocError> {
-    let text = AsmText {
-        bytes: Vec::from_slice(alloc, b"addu r2, r4, r5")?,
-        span: Span { start: 0, end: 17 },
-        words: Vec::from_slice(alloc, &[0x0085_1021])?,
-    };
     let mut code = Vec::new(alloc);
-    emit_asm(alloc, &text, &mut code)?;
+    emit_asm(alloc, &[0x0085_1021], &mut code)?;
     put_words(out, "asm", &code)
 }
 

@@ -22,11 +22,13 @@ use Rattle.c0_meaning.specs.Bare.{bare_ty, bare_expr, bare_stmt, bare_stmts, bar
 use Rattle.c0_runtime.specs.declared.entry.TheConstants.{ENTRY_WORDS}
 use Rattle.c0_runtime.specs.declared.runtime.TheConstants.{RUNTIME_WORDS}
 use Rattle.c0_runtime.specs.Code as runtime
-use Rattle.c0_expr_code.specs.Scope.{Scope, is_free_of_calls, are_free_of_calls, is_leaf, keeps_registers, MAX_REGISTER_VARIABLES, exit_number}
+use Rattle.c0_typed.specs.Leaf.{MAX_REGISTER_VARIABLES, are_calling, are_free_of_calls, is_calling, is_free_of_calls, is_leaf, keeps_registers}
+use Rattle.c0_expr_code.specs.Scope.{Scope, exit_number}
+use Rattle.c0_expr_code.specs.FrameSetting.{frame_setting}
 use Rattle.c0_expr_code.specs.Code.{field_made, index_made, target_address, at_place, only_value, access_code, unary_made, binary_made, made, constant_code, register_of_variable}
 use Rattle.c0_expr_code.specs.Reads.{reads, reads_to_find}
 use Rattle.c0_expr_code.specs.Test.{plain_test, unary_test, binary_test, test_code}
-use Rattle.c0_stmt_code.specs.Code.{Links, callee_index, skip, stored_code, assigned_code, args_code, otherwise, otherwise_at, stmt_code, stmts_code, is_calling, are_calling, register_entry, frame_entry, exit_code, body_code, function_code}
+use Rattle.c0_stmt_code.specs.Code.{Links, callee_index, skip, stored_code, assigned_code, args_code, otherwise, otherwise_at, stmt_code, stmts_code, entry_code, exit_code, body_code, function_code}
 use Rattle.c0_stmt_code.specs.Live.{any_reads, is_variable, live_at_place, is_live, are_live, are_scalar, is_cleared}
 use Rattle.c0_unit.specs.Code.{fault_exits, scope, links, no_links, unit_links, functions_code, words_of_functions, ordered_code, starts_from, function_starts, functions_at, code_words, routines_code, unit_code, program_words}
 use Rattle.c0_types.specs.Front.{IsUnitAs}
@@ -227,9 +229,8 @@ scope_bare u f = λ j. record {
 
 body_bare : (sc : Scope) (x : Links) (n : ℕ) (b : CBody) → body_code sc x n (bare_body b) ≡ body_code sc x n b
 body_bare sc x n (code locals stmts answer) =
-    λ j. (if sc.in_registers then register_entry sc (cleared_bare locals stmts answer j) n (count_bare locals j) (callings_bare stmts j)
-    else frame_entry sc (cleared_bare locals stmts answer j) n (all_words sc.env.structs (typeds_bare locals j)) (callings_bare stmts j))
-    ++ (stmts_bare sc x stmts j ++ ((made_bare sc answer j).value ANSWER EXPRESSIONS ++ exit_code sc (callings_bare stmts j)))
+    λ j. entry_code (frame_setting sc) (cleared_bare locals stmts answer j) n (count_bare locals j) (all_words sc.env.structs (typeds_bare locals j)) (callings_bare stmts j)
+    ++ (stmts_bare sc x stmts j ++ ((made_bare sc answer j).value ANSWER EXPRESSIONS ++ exit_code (frame_setting sc) (callings_bare stmts j)))
 body_bare sc x n (asm text span words) = refl
 
 function_bare : (u : CUnit) (x : Links) (f : CFunction) → function_code (scope (bare u) (bare_function f)) x (bare_function f) ≡ function_code (scope u f) x f

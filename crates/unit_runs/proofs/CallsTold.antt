@@ -33,7 +33,7 @@ use Rattle.cvm_model.specs.TypedKernel.{RowsAreCalled}
 use Rattle.cvm_model.specs.Stands.{Site}
 use Rattle.unit_runs.specs.Held.{HeldIsFlat}
 use Rattle.unit_runs.specs.Placed.{program, CodeStands}
-use Rattle.unit_runs.proofs.HowFar.{RunsJoin}
+use Rattle.unit_runs.proofs.RunsComeSoFar.{RunsJoin}
 use Rattle.unit_runs.proofs.PrimitivesCounted.{none_some, IsElsewhere, counts_last}
 use Rattle.unit_runs.proofs.PrimitivesPass.{Ground}
 use Rattle.unit_runs.proofs.MeaningOnMachine.{RunTo}

@@ -50,7 +50,7 @@ use Rattle.unit_runs.specs.Host.{CountsCalls}
 use Rattle.unit_runs.proofs.CodeOnMachine.{piece_at, not_own, kept_past, kept_words}
 use Rattle.unit_runs.proofs.UsersSeen.{space_is}
 use Rattle.unit_runs.proofs.StandingIsSeen.{seen, behind, no_user, outer_of}
-use Rattle.unit_runs.proofs.HowFar.{RunsJoin, Reached, inside_of, instructs_named, goes_on}
+use Rattle.unit_runs.proofs.RunsComeSoFar.{RunsJoin, Reached, inside_of, instructs_named, goes_on}
 use Rattle.unit_runs.proofs.PrimitivesCounted.{IsElsewhere, begins, counts_along, counts_on}
 use Rattle.unit_runs.proofs.SiteStays.{setup}
 use Rattle.unit_runs.proofs.HeldStandAsWords.{flat_scalars}

@@ -44,7 +44,7 @@ use Rattle.unit_runs.specs.Outer.{Outer}
 use Rattle.unit_runs.specs.Placed.{program, CodeStands}
 use Rattle.unit_runs.specs.Host.{CountsCalls}
 use Rattle.unit_runs.proofs.StandingIsSeen.{seen, behind, IsSeen, stands_of}
-use Rattle.unit_runs.proofs.HowFar.{RunsJoin, Reached, inside_of}
+use Rattle.unit_runs.proofs.RunsComeSoFar.{RunsJoin, Reached, inside_of}
 use Rattle.unit_runs.proofs.SiteStays.{setup}
 use Rattle.unit_runs.proofs.PrimitivesPass.{Ground, whole}
 use Rattle.unit_runs.proofs.MeaningOnMachine.{RunTo}

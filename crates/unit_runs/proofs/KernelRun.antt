@@ -41,7 +41,7 @@ use Rattle.unit_runs.specs.Host.{MachineFollows}
 use Rattle.unit_runs.specs.Runs.{UnitsRunOverLayers, UnitsCallsFollow}
 use Rattle.unit_runs.proofs.MapPartsStand.{bounds_of}
 use Rattle.unit_runs.proofs.CodeOnMachine.{sound}
-use Rattle.unit_runs.proofs.HowFar.{RunsJoin}
+use Rattle.unit_runs.proofs.RunsComeSoFar.{RunsJoin}
 use Rattle.unit_runs.proofs.PrimitivesPass.{Ground}
 use Rattle.unit_runs.proofs.MeaningOnMachine.{RunTo}
 use Rattle.unit_runs.proofs.MachineIsHost.{runs}

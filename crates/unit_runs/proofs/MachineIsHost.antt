@@ -28,7 +28,7 @@ use Rattle.cvm_model.specs.TypedKernel.{RowsAreCalled}
 use Rattle.cvm_model.specs.Stands.{Site, UserFits}
 use Rattle.unit_runs.specs.Outer.{Outer}
 use Rattle.unit_runs.specs.Placed.{program, CodeStands}
-use Rattle.unit_runs.proofs.HowFar.{RunsJoin, Reached, goes_on}
+use Rattle.unit_runs.proofs.RunsComeSoFar.{RunsJoin, Reached, goes_on}
 use Rattle.unit_runs.proofs.PrimitivesCounted.{counts_on}
 use Rattle.unit_runs.proofs.CallsGrow.{one_entry}
 use Rattle.unit_runs.proofs.PrimitivesPass.{Ground}

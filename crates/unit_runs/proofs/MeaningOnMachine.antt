@@ -31,7 +31,7 @@ use Rattle.unit_runs.specs.Outer.{Outer}
 use Rattle.unit_runs.specs.Placed.{program, CodeStands}
 use Rattle.unit_runs.specs.Host as host
 use Rattle.unit_runs.specs.Host.{CountsCalls, EndsAll}
-use Rattle.unit_runs.proofs.HowFar.{RunsJoin, Reached}
+use Rattle.unit_runs.proofs.RunsComeSoFar.{RunsJoin, Reached}
 use Rattle.unit_runs.proofs.SiteStays.{setup}
 use Rattle.unit_runs.proofs.PrimitivesPass.{Ground, Passed, passes}
 

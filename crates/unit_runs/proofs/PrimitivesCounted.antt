@@ -17,7 +17,7 @@ use Rattle.cvm_model.specs.Stands.{Site}
 use Rattle.unit_runs.specs.Placed.{program}
 use Rattle.unit_runs.specs.Host.{CountsCalls}
 use Rattle.unit_runs.proofs.CodeOnMachine.{code_is}
-use Rattle.unit_runs.proofs.HowFar.{RunsJoin, Reached}
+use Rattle.unit_runs.proofs.RunsComeSoFar.{RunsJoin, Reached}
 
 -- the pc is at no primitive's entry
 abbrev pub IsElsewhere : State → Type 0

@@ -41,7 +41,7 @@ use Rattle.unit_runs.proofs.MapPartsStand.{Bounds}
 use Rattle.unit_runs.proofs.CodeOnMachine.{code_is, some_below, not_own, kept_words, kept_past}
 use Rattle.unit_runs.proofs.UsersSeen.{space_is}
 use Rattle.unit_runs.proofs.StandingIsSeen.{seen, behind, no_user, outer_of, IsSeen, stands_of}
-use Rattle.unit_runs.proofs.HowFar.{RunsJoin, inside_of, no_primitive, Reached, passes_on}
+use Rattle.unit_runs.proofs.RunsComeSoFar.{RunsJoin, inside_of, no_primitive, Reached, passes_on}
 use Rattle.unit_runs.proofs.PrimitivesCounted.{IsElsewhere, counts_one, was_idle, in_code}
 use Rattle.unit_runs.proofs.SiteStays.{regions_on}
 use Rattle.unit_runs.proofs.WordsAsInts.{ints_from, ints_count, ints_stand, ints_length, scalar_flat, arguments}

@@ -1,4 +1,4 @@
-use Rattle.c0_expr_code.proofs.NodePatches.{node_patches, node_within}
+use Rattle.c0_expr_code.proofs.PatchedIsTestCode.{node_patches, node_within}
 use Rattle.c0_expr_code.proofs.node_laws.node_patches_aim.Goals as goal
 
 pub returns-clause-aims : goal.returns-clause-aims

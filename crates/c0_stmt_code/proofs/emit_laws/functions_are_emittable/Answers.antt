@@ -3,4 +3,4 @@ use Rattle.c0_stmt_code.proofs.TypedIsEmittable.{function_emittable}
 use Rattle.c0_stmt_code.proofs.emit_laws.functions_are_emittable.Goals as goal
 
 pub returns : goal.returns
-returns c = λ primitives u well. function_emittable c.numbers_are_there.ensures c.numbers_tell.ensures c.units_are_typed_or_faulty.ensures primitives u well
+returns c = function_emittable c.numbers_tell.ensures c.units_are_typed_or_faulty.ensures

@@ -1,8 +1,8 @@
 -- Each kind of step by its own lemma, over what the laws of the crates below say.
 use Rattle.c0_meaning.specs.Sound.{shapes}
 use Rattle.c0_meaning.specs.TypedState.{store_typing}
-use Rattle.c0_stmt_code.proofs.LowerLaws.{lengths_fit, held_stays, typed_stays}
-use Rattle.c0_stmt_code.proofs.ExpressionLaws.{exprs, locals_declared, functions_are}
+use Rattle.c0_stmt_code.proofs.PremisesOfLowerCrates.{lengths_fit, held_stays, typed_stays}
+use Rattle.c0_stmt_code.proofs.PremisesOfExpressions.{exprs, locals_declared, functions_are}
 use Rattle.c0_stmt_code.proofs.EachStep.{steps, opened_of}
 use Rattle.c0_stmt_code.specs.Standing.{scope}
 use Rattle.c0_stmt_code.proofs.laws.steps_run.Goals as goal

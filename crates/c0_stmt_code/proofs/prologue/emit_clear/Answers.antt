@@ -1,8 +1,8 @@
 use Rattle.std.proofs.Common.{ℕ, ◌+◌, ◌<◌, ◌++◌, Bool, length, map, ap, ◌∙◌, arith}
 use Rattle.mips_table.specs.Encoding.{encoding}
 use Rattle.c0_stmt_code.specs.Code.{clear_one}
-use Rattle.c0_stmt_code.specs.EmitLeaf.{cleared_in}
-use Rattle.c0_stmt_code.proofs.EmitLeaf.{appended, clear_next}
+use Rattle.c0_stmt_code.specs.Emit.{cleared_in}
+use Rattle.c0_stmt_code.proofs.PiecesAppended.{appended, clear_next}
 use Rattle.c0_stmt_code.proofs.prologue.emit_clear.Goals as goal
 
 pub loop-i-preserved : goal.loop-i-preserved

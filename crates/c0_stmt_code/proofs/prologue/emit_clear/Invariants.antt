@@ -2,7 +2,7 @@
 use Rattle.std.proofs.Common.{◌≡◌, ◌+◌, ◌-◌, ◌++◌, length, map}
 use Rattle.mips_table.specs.Encoding.{encoding}
 use Rattle.c0_stmt_code.specs.Code.{clear_code}
-use Rattle.c0_stmt_code.specs.EmitLeaf.{cleared_in}
+use Rattle.c0_stmt_code.specs.Emit.{cleared_in}
 use Rattle.c0_stmt_code.proofs.prologue.emit_clear.Given as goal
 
 abbrev pub invariant-loop-i : goal.invariant-loop-i

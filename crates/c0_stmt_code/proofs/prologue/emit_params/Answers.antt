@@ -2,18 +2,18 @@ use Rattle.std.proofs.Common.{◌≡◌, ℕ, ◌+◌, ◌++◌, map, ap, ◌∙
 use Rattle.mips_table.specs.declared.inst.Inst.TheVariants.{Sw}
 use Rattle.mips_table.specs.Encoding.{encoding}
 use Rattle.c0_expr_code.specs.Code.{access_code, register_of_variable}
-use Rattle.c0_expr_code.specs.Scene.{scope_in}
+use Rattle.c0_expr_code.specs.SettingIn.{setting_in}
 use Rattle.c0_stmt_code.specs.Code.{frame_slot}
-use Rattle.c0_stmt_code.proofs.EmitLeaf.{appended, params_next}
+use Rattle.c0_stmt_code.proofs.PiecesAppended.{appended, params_next}
 use Rattle.c0_stmt_code.proofs.prologue.emit_params.Goals as goal
 
 pub loop-i-preserved : goal.loop-i-preserved
 loop-i-preserved c =
-    let sc = scope_in c.args.scene.now in
+    let st = setting_in c.args.setting.now in
     let word : 3 + c.from.result ≡ 3 + c.loop-i.i = ap (λ (k : ℕ). 3 + k) c.from.ensures in
     let register : c.register_behind-register.result ≡ register_of_variable c.loop-i.i =
     c.register_behind-register.ensures.value ∙ ap register_of_variable (omega arith) in
-    appended c.loop-i.code.items c.emit_word.new.code.items _ _ _ _ (params_next sc c.args.count c.loop-i.i c.loop-i-test.true)
+    appended c.loop-i.code.items c.emit_word.new.code.items _ _ _ _ (params_next st c.args.count c.loop-i.i c.loop-i-test.true)
     (c.in_ok-emit_word.ensures
-    ∙ ap (λ (r : ℕ). c.loop-i.code.items ++ map encoding (access_code (λ b k. Sw r b k) 1 (frame_slot sc (3 + c.from.result)))) register
-    ∙ ap (λ (w : ℕ). c.loop-i.code.items ++ map encoding (access_code (λ b k. Sw (register_of_variable c.loop-i.i) b k) 1 (frame_slot sc w))) word) c.loop-i.invariant
+    ∙ ap (λ (r : ℕ). c.loop-i.code.items ++ map encoding (access_code (λ b k. Sw r b k) 1 (frame_slot st (3 + c.from.result)))) register
+    ∙ ap (λ (w : ℕ). c.loop-i.code.items ++ map encoding (access_code (λ b k. Sw (register_of_variable c.loop-i.i) b k) 1 (frame_slot st w))) word) c.loop-i.invariant

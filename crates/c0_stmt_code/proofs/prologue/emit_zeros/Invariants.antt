@@ -1,11 +1,11 @@
 -- What stands, and the stores that are to come, are all that is to stand.
 use Rattle.std.proofs.Common.{◌≡◌, ◌+◌, ◌-◌, ◌++◌, map}
 use Rattle.mips_table.specs.Encoding.{encoding}
-use Rattle.c0_expr_code.specs.Scene.{scope_in}
+use Rattle.c0_expr_code.specs.SettingIn.{setting_in}
 use Rattle.c0_stmt_code.specs.Code.{zeros_code}
-use Rattle.c0_stmt_code.specs.EmitLeaf.{cleared_in}
+use Rattle.c0_stmt_code.specs.Emit.{cleared_in}
 use Rattle.c0_stmt_code.proofs.prologue.emit_zeros.Given as goal
 
 abbrev pub invariant-loop-i : goal.invariant-loop-i
 invariant-loop-i l =
-    l.code.items ++ map encoding (zeros_code (scope_in l.scene) (cleared_in l.body) (l.count - l.i) (l.first + l.i)) ≡ l.initial.code.items ++ map encoding (zeros_code (scope_in l.scene) (cleared_in l.body) l.count l.first)
+    l.code.items ++ map encoding (zeros_code (setting_in l.setting) (cleared_in l.body) (l.count - l.i) (l.first + l.i)) ≡ l.initial.code.items ++ map encoding (zeros_code (setting_in l.setting) (cleared_in l.body) l.count l.first)

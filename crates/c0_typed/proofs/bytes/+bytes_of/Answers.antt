@@ -5,7 +5,7 @@ use Rattle.c0_tree.specs.declared.tree.CType as rust
 use Rattle.c0_meaning.specs.Ty.{ty_of}
 use Rattle.c0_meaning.specs.Sound.{shapes}
 use Rattle.c0_meaning.specs.Words.{words}
-use Rattle.c0_typed.proofs.Structs.{view_array, array_bytes}
+use Rattle.c0_typed.proofs.StructsByNumber.{view_array, array_bytes}
 use Rattle.c0_typed.proofs.bytes.+bytes_of.Goals as goal
 
 pub returns-in-Array : goal.returns-in-Array

@@ -3,7 +3,7 @@ use Rattle.c0_tree.specs.View.{name_view, unit_view}
 use Rattle.c0_meaning.specs.Ty as ty
 use Rattle.c0_meaning.specs.Sound.{shapes}
 use Rattle.c0_meaning.specs.Words.{words}
-use Rattle.c0_typed.proofs.Structs.{struct_words_are, struct_count}
+use Rattle.c0_typed.proofs.StructsByNumber.{struct_words_are, struct_count}
 use Rattle.c0_typed.proofs.bytes.struct_bytes.Goals as goal
 
 pub struct_words-requires : goal.struct_words-requires

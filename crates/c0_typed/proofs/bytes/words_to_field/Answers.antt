@@ -4,7 +4,7 @@ use Rattle.c0_tree.specs.View.{name_view, unit_view, struct_view}
 use Rattle.c0_meaning.specs.Offsets.{struct_offsets}
 use Rattle.c0_meaning.specs.Sound.{shapes}
 use Rattle.c0_typed.specs.Typed.{entry}
-use Rattle.c0_typed.proofs.Structs.{struct_count, fields_begin}
+use Rattle.c0_typed.proofs.StructsByNumber.{struct_count, fields_begin}
 use Rattle.c0_typed.proofs.bytes.words_to_field.Goals as goal
 
 pub index-requires : goal.index-requires

@@ -8,7 +8,7 @@ use Rattle.c0_meaning.specs.TypeAt.{env_in}
 use Rattle.c0_typed.specs.Sized.{IsSizedBody}
 use Rattle.c0_typed.specs.Typed.{typed_in, typed_of_function}
 use Rattle.c0_typed.specs.View.{typed_function_view}
-use Rattle.c0_typed.proofs.Functions.{env_is, found, same_some}
+use Rattle.c0_typed.proofs.OneFunctionMore.{env_is, found, same_some}
 use Rattle.c0_typed.proofs.SizedBodies.{element_of_all}
 use Rattle.c0_typed.proofs.function.typed_function.Goals as goal
 

@@ -5,7 +5,7 @@ use Rattle.c0_tree.specs.View.{decl_view, type_view}
 use Rattle.c0_tree.specs.declared.tree.Decl.{Decl}
 use Rattle.c0_meaning.specs.Sound.{IsSized}
 use Rattle.c0_typed.specs.SeenEnv.{env_seen}
-use Rattle.c0_typed.proofs.Functions.{all_at}
+use Rattle.c0_typed.proofs.OneFunctionMore.{all_at}
 use Rattle.c0_typed.proofs.function.typed_locals.Goals as goal
 
 pub typed_local-requires : goal.typed_local-requires

@@ -1,4 +1,4 @@
-use Rattle.c0_typed.proofs.Numbers.{fields_those}
+use Rattle.c0_typed.proofs.NumbersAreOfValues.{fields_those}
 use Rattle.c0_typed.proofs.laws.fields_are_those.Goals as goal
 
 pub returns : goal.returns

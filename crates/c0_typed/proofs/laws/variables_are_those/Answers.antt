@@ -1,4 +1,4 @@
-use Rattle.c0_typed.proofs.Numbers.{variables_those}
+use Rattle.c0_typed.proofs.NumbersAreOfValues.{variables_those}
 use Rattle.c0_typed.proofs.laws.variables_are_those.Goals as goal
 
 pub returns : goal.returns

@@ -12,7 +12,7 @@ use Rattle.c0_meaning.specs.Words.{words}
 use Rattle.c0_typed.specs.declared.tree.Elements.{Elements}
 use Rattle.c0_typed.specs.SeenEnv.{env_seen, unit_seen}
 use Rattle.c0_typed.specs.Typed.{elements_in}
-use Rattle.c0_typed.proofs.Structs.{view_array, env_structs}
+use Rattle.c0_typed.proofs.StructsByNumber.{view_array, env_structs}
 use Rattle.c0_typed.proofs.place.elements_of.Goals as goal
 
 counted : ℕ → ℕ → ℕ → Elements

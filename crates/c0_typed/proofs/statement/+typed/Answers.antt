@@ -2,7 +2,7 @@
 use Rattle.std.proofs.Common.{◌≤◌, length, map, arith}
 use Rattle.c0_typed.specs.SeenEnv.{env_seen}
 use Rattle.c0_typed.specs.View.{typed_stmt_view}
-use Rattle.c0_typed.proofs.Trees.{all_typed}
+use Rattle.c0_typed.proofs.TreesOfLists.{all_typed}
 use Rattle.c0_typed.proofs.statement.+typed.Goals as goal
 
 pub typed_stmts-returns : goal.typed_stmts-returns

@@ -7,7 +7,7 @@ use Rattle.c0_tree.specs.Tree.{CFunction}
 use Rattle.c0_tree.specs.View.{function_view, unit_view}
 use Rattle.c0_typed.specs.Typed.{typed_of_function}
 use Rattle.c0_typed.specs.View.{typed_function_view}
-use Rattle.c0_typed.proofs.Functions.{one_more}
+use Rattle.c0_typed.proofs.OneFunctionMore.{one_more}
 use Rattle.c0_typed.proofs.unit.typed_unit.Goals as goal
 
 pub loop-number-preserved : goal.loop-number-preserved

@@ -9,8 +9,8 @@ use Rattle.c0_unit.proofs.functions.emit_range.Given as goal
 
 abbrev pub invariant-loop-number : goal.invariant-loop-number
 invariant-loop-number l = record {
-  code : l.code.items ≡ l.initial.code.items ++ map encoding (code_in (unit_view l.layout.unit.now) (links_of l.addresses) l.from l.number);
-  starts : l.starts.items ≡ starts_from (layer_words + length l.initial.code.items) (words_in (unit_view l.layout.unit.now) l.from l.number);
+  code : l.code.items ≡ l.initial.code.items ++ map encoding (code_in (unit_view l.typed) (links_of l.addresses) l.from l.number);
+  starts : l.starts.items ≡ starts_from (layer_words + length l.initial.code.items) (words_in (unit_view l.typed) l.from l.number);
   reached : l.from ≤ l.number;
   few : length l.code.items ≤ length l.initial.code.items + 3200000;
 }

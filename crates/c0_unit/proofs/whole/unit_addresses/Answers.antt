@@ -12,12 +12,12 @@ use Rattle.c0_unit.proofs.whole.unit_addresses.Goals as goal
 pub returns-clause-placed : goal.returns-clause-placed
 returns-clause-placed c =
     let start : length c.in_ok-code.code.items ≡ 5 = let e = c.in_ok-code.ensures.len in omega (arith, e, c.in_ok-code.code.ok) in
-    let long : c.len.result ≡ 5 + sum (lengths_of (unit_view c.args.layout.now.unit.now)) =
+    let long : c.len.result ≡ 5 + sum (lengths_of (unit_view c.args.typed.now)) =
     let l = c.len.ensures in
     let n = c.in_ok-starts.ensures.length in
     omega (arith, l, n, start, c.emit_functions.new.code.ok) in
     let begin : layer_words + length c.in_ok-code.code.items ≡ layer_words + 5 = omega (arith, start) in
-    IfOk-weaker c.placed_at-2.result (λ p. AreAddressesAt p c.in_ok-starts.starts.items (16384 + c.len.result) ((16384 + c.len.result + 31 + 1023) / 1024 * 4096)) (λ p. AreAddressesOf (unit_view c.args.layout.now.unit.now) c.args.first p)
-    (λ p h. are_places_of (unit_view c.args.layout.now.unit.now) c.args.first p c.in_ok-starts.starts.items (16384 + c.len.result) ((16384 + c.len.result + 31 + 1023) / 1024 * 4096) c.len.result h
-    (c.in_ok-starts.ensures.starts ∙ ap (λ n. starts_in_order n (unit_view c.args.layout.now.unit.now) c.args.first) begin) long refl refl)
+    IfOk-weaker c.placed_at-2.result (λ p. AreAddressesAt p c.in_ok-starts.starts.items (16384 + c.len.result) ((16384 + c.len.result + 31 + 1023) / 1024 * 4096)) (λ p. AreAddressesOf (unit_view c.args.typed.now) c.args.first p)
+    (λ p h. are_places_of (unit_view c.args.typed.now) c.args.first p c.in_ok-starts.starts.items (16384 + c.len.result) ((16384 + c.len.result + 31 + 1023) / 1024 * 4096) c.len.result h
+    (c.in_ok-starts.ensures.starts ∙ ap (λ n. starts_in_order n (unit_view c.args.typed.now) c.args.first) begin) long refl refl)
     c.placed_at-2.ensures.placed
