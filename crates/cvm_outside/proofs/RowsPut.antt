@@ -4,7 +4,7 @@ use Rattle.std.specs.Prelude.{IfSome, ◌≢◌}
 use Rattle.std.specs.Option.{option_map}
 use Rattle.std.specs.Io.KnownBytes.{append_known}
 use Rattle.cvm_outside.specs.Causes.{Counts}
-use Rattle.cvm_outside.specs.Numbering.{until_fault}
+use Rattle.cvm_outside.specs.Numbering.{counted_up, until_fault}
 use Rattle.cvm_outside.specs.Told.{AppendsPart, with_sector}
 use Rattle.cvm_outside.specs.declared.sink.SinkFault.{SinkFault}
 use Rattle.cvm_outside.specs.declared.sectors.DiskFault.{DiskFault}
@@ -61,32 +61,32 @@ performed told rows shelf disk old new (Some TheDisk) is p = absurd p.by
 performed told rows shelf disk old new (Some TheShelf) is p = absurd p.by
 
 -- one read of a disk
-pub read_once : {T : Type 0} (sector : ℕ) (shelf : Files) (sink : Output) (old new : Drive) (r : Result T DiskFault) → sector < old.size → new.size ≡ old.size → new.sectors ≡ old.sectors → Counts old.faults new.faults r → new.calls ≡ until_fault old.faults old.calls →
+pub read_once : {T : Type 0} (sector : ℕ) (shelf : Files) (sink : Output) (old new : Drive) (r : Result T DiskFault) → sector < old.size → new.size ≡ old.size → new.sectors ≡ old.sectors → Counts old.faults new.faults r → new.calls ≡ until_fault old.faults old.calls → new.all_calls ≡ counted_up old.all_calls →
     Performs (Read sector ∷ []) (record { shelf = shelf; sink = sink; disk = old }) (record { shelf = shelf; sink = sink; disk = new }) (blame of_disk r)
-read_once sector shelf sink old new (Ok v) within size same count calls =
+read_once sector shelf sink old new (Ok v) within size same count calls all =
     let at : Drive → Outside = λ d. record { shelf = shelf; sink = sink; disk = d } in
-    goes_on (Read sector) [] _ _ _ None (same_drive (at) old new size same count.same calls, within) (done _)
+    goes_on (Read sector) [] _ _ _ None (same_drive (at) old new size same count.same calls all, within) (done _)
   where
-    same_drive : (at : Drive → Outside) (old new : Drive) → new.size ≡ old.size → new.sectors ≡ old.sectors → new.faults ≡ old.faults → new.calls ≡ until_fault old.faults old.calls → at new ≡ at (disk_called old)
-    same_drive at old new size same faults calls = rw (size, same, faults, calls) refl
-read_once sector shelf sink old new (Err e) within size same count calls = breaks (Read sector) [] _ _ (record { later = count.later; rose = count.rose }, torn (λ d. record { shelf = shelf; sink = sink; disk = d }), within)
+    same_drive : (at : Drive → Outside) (old new : Drive) → new.size ≡ old.size → new.sectors ≡ old.sectors → new.faults ≡ old.faults → new.calls ≡ until_fault old.faults old.calls → new.all_calls ≡ counted_up old.all_calls → at new ≡ at (disk_called old)
+    same_drive at old new size same faults calls all = rw (size, same, faults, calls, all) refl
+read_once sector shelf sink old new (Err e) within size same count calls all = breaks (Read sector) [] _ _ (record { later = count.later; rose = count.rose }, torn (λ d. record { shelf = shelf; sink = sink; disk = d }), within)
   where
     torn : (at : Drive → Outside) → at new ≡ at (record (disk_called old) { faults = new.faults })
-    torn at = rw (size, same, calls) refl
+    torn at = rw (size, same, calls, all) refl
 
 -- one write
 pub write_once : {T : Type 0} (sector : ℕ) (words : List ℕ) (shelf : Files) (sink : Output) (old new : Drive) (r : Result T DiskFault) → sector < old.size → new.size ≡ old.size → OnOk r (new.sectors ≡ with_sector old.sectors sector words) →
-    OnErr r ((torn : List ℕ) × (new.sectors ≡ with_sector old.sectors sector torn)) → Counts old.faults new.faults r → new.calls ≡ until_fault old.faults old.calls →
+    OnErr r ((torn : List ℕ) × (new.sectors ≡ with_sector old.sectors sector torn)) → Counts old.faults new.faults r → new.calls ≡ until_fault old.faults old.calls → new.all_calls ≡ counted_up old.all_calls →
     Performs (Wrote sector words ∷ []) (record { shelf = shelf; sink = sink; disk = old }) (record { shelf = shelf; sink = sink; disk = new }) (blame of_disk r)
-write_once sector words shelf sink old new (Ok v) within size whole torn count calls = goes_on (Wrote sector words) [] _ _ _ None (all (λ d. record { shelf = shelf; sink = sink; disk = d }) new.faults count.same, within) (done _)
+write_once sector words shelf sink old new (Ok v) within size whole torn count calls all = goes_on (Wrote sector words) [] _ _ _ None (whole_drive (λ d. record { shelf = shelf; sink = sink; disk = d }) new.faults count.same, within) (done _)
   where
-    all : (at : Drive → Outside) (n : ℕ) → n ≡ old.faults → at (record new { faults = n }) ≡ at (record (disk_called old) { sectors = with_sector old.sectors sector words })
-    all at n e = rw (size, whole, calls, e) refl
-write_once sector words shelf sink old new (Err e) within size whole torn count calls =
+    whole_drive : (at : Drive → Outside) (n : ℕ) → n ≡ old.faults → at (record new { faults = n }) ≡ at (record (disk_called old) { sectors = with_sector old.sectors sector words })
+    whole_drive at n e = rw (size, whole, calls, all, e) refl
+write_once sector words shelf sink old new (Err e) within size whole torn count calls all =
     breaks (Wrote sector words) [] _ _ (record { later = count.later; rose = count.rose }, (torn.0, part (λ d. record { shelf = shelf; sink = sink; disk = d })), within)
   where
     part : (at : Drive → Outside) → at new ≡ at (record (disk_called old) { faults = new.faults; sectors = with_sector old.sectors sector torn.0 })
-    part at = rw (size, torn.1, calls) refl
+    part at = rw (size, torn.1, calls, all) refl
 
 -- no sector is written, and a disk keeps its size
 torn_sectors : (c : Call) (rest : List Call) (old new : Outside) → WritesNoSector (c ∷ rest) → CallFailed c old new → new.disk.sectors ≡ old.disk.sectors

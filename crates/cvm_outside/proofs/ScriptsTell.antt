@@ -3,7 +3,7 @@ use Rattle.std.proofs.Common.{◌≡◌, ℕ, zero, suc, List, [], ◌∷◌, �
 use Rattle.std.specs.Prelude.{IfSome}
 use Rattle.std.specs.Option.{option_map}
 use Rattle.std.specs.Io.KnownBytes.{append_known}
-use Rattle.cvm_outside.specs.Numbering.{Tally, until_fault, called}
+use Rattle.cvm_outside.specs.Numbering.{Tally, counted_up, until_fault, called, counted_times}
 use Rattle.cvm_outside.specs.Told.{AppendsPart}
 use Rattle.cvm_outside.proofs.PartsMakeTheWhole.{append_known-nil, puts-both, part-none, part-front, part-back}
 use Rattle.cvm_outside.specs.Outside.{Outside, Drive, Files, counts, shelf_counts}
@@ -52,35 +52,45 @@ tell a old new blamed (goes_on c rest _ mid _ _ d p) = more_text c rest old mid 
 
 -- a call more, before others
 abbrev after_one : Tally → Tally
-after_one t = record t { calls = until_fault t.faults t.calls }
+after_one t = record t { calls = until_fault t.faults t.calls; all_calls = counted_up t.all_calls }
 
 called_first : (n : ℕ) (t : Tally) → called n (after_one t) ≡ called (suc n) t
 called_first zero t = refl
 called_first (suc n) t = ap (until_fault t.faults) (called_first n t)
+
+times_first : (n calls : ℕ) → counted_times n (counted_up calls) ≡ counted_times (suc n) calls
+times_first zero calls = refl
+times_first (suc n) calls = ap counted_up (times_first n calls)
 
 fewer : (blamed : Option Who) (m n : ℕ) → MadeBy blamed m n → MadeBy blamed (suc m) (suc n)
 fewer None m n h = ap suc h
 fewer (Some whom) m n h = omega (arith, h)
 
 -- one object's: a call that isn't of it, and one that is, before others; and one that failed
-silent : (w : Who) (n now : ℕ) (old mid : Tally) (blamed : Option Who) → mid ≡ old → CallsMade w n mid now blamed → CallsMade w n old now blamed
+silent : (w : Who) (n : ℕ) (now old mid : Tally) (blamed : Option Who) → mid ≡ old → CallsMade w n mid now blamed → CallsMade w n old now blamed
 silent w n now old mid blamed e h = subst (λ (t : Tally). CallsMade w n t now blamed) e h
 
-once : (w : Who) (n now : ℕ) (old mid : Tally) (blamed : Option Who) → mid ≡ after_one old → CallsMade w n mid now blamed → CallsMade w (suc n) old now blamed
-once w n now old mid blamed e h = record { made = suc h.made; calls = h.calls ∙ ap (called h.made) e ∙ called_first h.made old; which = fewer blamed h.made n h.which; some = λ s. omega arith }
+once : (w : Who) (n : ℕ) (now old mid : Tally) (blamed : Option Who) → mid ≡ after_one old → CallsMade w n mid now blamed → CallsMade w (suc n) old now blamed
+once w n now old mid blamed e h = record {
+  made = suc h.made;
+  calls = h.calls ∙ ap (called h.made) e ∙ called_first h.made old;
+  all_calls = h.all_calls ∙ ap (λ (t : Tally). counted_times h.made t.all_calls) e ∙ times_first h.made old.all_calls;
+  which = fewer blamed h.made n h.which;
+  some = λ s. omega arith;
+}
 
-uncalled : (w v : Who) (n now : ℕ) (old : Tally) → (Some v ≡ Some w → ⊥) → now ≡ old.calls → CallsMade w n old now (Some v)
-uncalled w v n now old other e = record { made = 0; calls = e; which = omega arith; some = λ s. absurd (other s) }
+uncalled : (w v : Who) (n : ℕ) (now old : Tally) → (Some v ≡ Some w → ⊥) → now ≡ old → CallsMade w n old now (Some v)
+uncalled w v n now old other e = record { made = 0; calls = ap (λ (t : Tally). t.calls) e; all_calls = ap (λ (t : Tally). t.all_calls) e; which = omega arith; some = λ s. absurd (other s) }
 
-failed : (w v : Who) (n now : ℕ) (old : Tally) → now ≡ until_fault old.faults old.calls → CallsMade w (suc n) old now (Some v)
-failed w v n now old e = record { made = 1; calls = e; which = omega arith; some = λ s. omega arith }
+failed : (w v : Who) (n : ℕ) (now old : Tally) → now.calls ≡ until_fault old.faults old.calls → now.all_calls ≡ counted_up old.all_calls → CallsMade w (suc n) old now (Some v)
+failed w v n now old e all = record { made = 1; calls = e; all_calls = all; which = omega arith; some = λ s. omega arith }
 
 broken_count : (c : Call) (rest : List Call) (old new : Outside) → CallFailed c old new → CountedCalls (c ∷ rest) old new (Some (who c))
-broken_count (Printed t) rest old new f = uncalled _ _ _ _ _ (λ e. cc) (ap (λ (o : Outside). o.disk.calls) f.2)
-broken_count (Read q) rest old new f = failed _ _ _ _ _ (ap (λ (o : Outside). o.disk.calls) f.1)
-broken_count (Wrote q ws) rest old new f = failed _ _ _ _ _ (ap (λ (o : Outside). o.disk.calls) f.1.1)
-broken_count (Got n) rest old new f = uncalled _ _ _ _ _ (λ e. cc) (ap (λ (o : Outside). o.disk.calls) f.2)
-broken_count (Stored n bs) rest old new f = uncalled _ _ _ _ _ (λ e. cc) (ap (λ (o : Outside). o.disk.calls) f.3)
+broken_count (Printed t) rest old new f = uncalled _ _ _ _ _ (λ e. cc) (ap (λ (o : Outside). counts o.disk) f.2)
+broken_count (Read q) rest old new f = failed _ _ _ _ _ (ap (λ (o : Outside). o.disk.calls) f.1) (ap (λ (o : Outside). o.disk.all_calls) f.1)
+broken_count (Wrote q ws) rest old new f = failed _ _ _ _ _ (ap (λ (o : Outside). o.disk.calls) f.1.1) (ap (λ (o : Outside). o.disk.all_calls) f.1.1)
+broken_count (Got n) rest old new f = uncalled _ _ _ _ _ (λ e. cc) (ap (λ (o : Outside). counts o.disk) f.2)
+broken_count (Stored n bs) rest old new f = uncalled _ _ _ _ _ (λ e. cc) (ap (λ (o : Outside). counts o.disk) f.3)
 
 more_count : (c : Call) (rest : List Call) (old mid new : Outside) (blamed : Option Who) → CallDone c old mid → CountedCalls rest mid new blamed → CountedCalls (c ∷ rest) old new blamed
 more_count (Printed t) rest old mid new blamed d h = silent _ _ _ _ _ blamed (ap (λ (o : Outside). counts o.disk) d.1) h
@@ -90,20 +100,20 @@ more_count (Got n) rest old mid new blamed d h = silent _ _ _ _ _ blamed (ap (λ
 more_count (Stored n bs) rest old mid new blamed d h = silent _ _ _ _ _ blamed (ap (λ (o : Outside). counts o.disk) d.3) h
 
 pub count : ScriptsCount
-count a old new blamed (done at) = record { made = 0; calls = refl; which = refl; some = λ e. absurd (cc) }
+count a old new blamed (done at) = record { made = 0; calls = refl; all_calls = refl; which = refl; some = λ e. absurd (cc) }
 count a old new blamed (breaks c rest _ _ f) = broken_count c rest old new f
 count a old new blamed (goes_on c rest _ mid _ _ d p) = more_count c rest old mid new blamed d (count rest mid new blamed p)
 
 -- the same of the shelf
 shelf_once : (old mid : Files) → mid.faults ≡ old.faults → ShelfCalled old mid → shelf_counts mid ≡ after_one (shelf_counts old)
-shelf_once old mid same c = rw (same, c.calls) refl
+shelf_once old mid same c = rw (same, c.calls, c.all_calls) refl
 
 broken_files : (c : Call) (rest : List Call) (old new : Outside) → CallFailed c old new → ShelfCounted (c ∷ rest) old new (Some (who c))
-broken_files (Printed t) rest old new f = uncalled _ _ _ _ _ (λ e. cc) (ap (λ (o : Outside). o.shelf.calls) f.2)
-broken_files (Read q) rest old new f = uncalled _ _ _ _ _ (λ e. cc) (ap (λ (o : Outside). o.shelf.calls) f.1)
-broken_files (Wrote q ws) rest old new f = uncalled _ _ _ _ _ (λ e. cc) (ap (λ (o : Outside). o.shelf.calls) f.1.1)
-broken_files (Got n) rest old new f = failed _ _ _ _ _ f.3.calls
-broken_files (Stored n bs) rest old new f = failed _ _ _ _ _ f.4.calls
+broken_files (Printed t) rest old new f = uncalled _ _ _ _ _ (λ e. cc) (ap (λ (o : Outside). shelf_counts o.shelf) f.2)
+broken_files (Read q) rest old new f = uncalled _ _ _ _ _ (λ e. cc) (ap (λ (o : Outside). shelf_counts o.shelf) f.1)
+broken_files (Wrote q ws) rest old new f = uncalled _ _ _ _ _ (λ e. cc) (ap (λ (o : Outside). shelf_counts o.shelf) f.1.1)
+broken_files (Got n) rest old new f = failed _ _ _ _ _ f.3.calls f.3.all_calls
+broken_files (Stored n bs) rest old new f = failed _ _ _ _ _ f.4.calls f.4.all_calls
 
 more_files : (c : Call) (rest : List Call) (old mid new : Outside) (blamed : Option Who) → CallDone c old mid → ShelfCounted rest mid new blamed → ShelfCounted (c ∷ rest) old new blamed
 more_files (Printed t) rest old mid new blamed d h = silent _ _ _ _ _ blamed (ap (λ (o : Outside). shelf_counts o.shelf) d.1) h
@@ -113,7 +123,7 @@ more_files (Got n) rest old mid new blamed d h = once _ _ _ _ _ blamed (shelf_on
 more_files (Stored n bs) rest old mid new blamed d h = once _ _ _ _ _ blamed (shelf_once old.shelf mid.shelf d.2 d.4) h
 
 pub count_files : ScriptsCountFiles
-count_files a old new blamed (done at) = record { made = 0; calls = refl; which = refl; some = λ e. absurd (cc) }
+count_files a old new blamed (done at) = record { made = 0; calls = refl; all_calls = refl; which = refl; some = λ e. absurd (cc) }
 count_files a old new blamed (breaks c rest _ _ f) = broken_files c rest old new f
 count_files a old new blamed (goes_on c rest _ mid _ _ d p) = more_files c rest old mid new blamed d (count_files rest mid new blamed p)
 

@@ -22,19 +22,21 @@ abbrev pub until_fault : (faults calls : ℕ) → ℕ
 until_fault zero calls = counted_up calls
 until_fault (suc n) calls = calls
 
--- what a disk or a shelf counts: its faults, and its calls up to the first that failed
+-- what a disk or a shelf counts: its faults, its calls up to the first that failed, and all its calls
 pub record Tally : Type 0 where
   pub faults : ℕ
   pub calls : ℕ
-
--- of an object, by both counts
-abbrev pub tally : {D : Type 0} → (faults calls : D → ℕ) → D → Tally
-tally faults calls disk = record { faults = faults disk; calls = calls disk }
+  pub all_calls : ℕ
 
 -- a count of calls after so many more, of which at most the last failed: where one had failed before none is counted
 abbrev pub called : ℕ → Tally → ℕ
 called zero before = before.calls
 called (suc n) before = until_fault before.faults (called n before)
+
+-- a count of all calls after so many more
+abbrev pub counted_times : ℕ → ℕ → ℕ
+counted_times zero before = before
+counted_times (suc n) before = counted_up (counted_times n before)
 
 -- the next call is one of those that fail
 abbrev pub is_listed : Numbering → Bool

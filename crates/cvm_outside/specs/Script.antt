@@ -3,7 +3,7 @@ use Rattle.std.specs.Prelude.{◌≡◌, ◌≢◌, ℕ, zero, suc, ◌<◌, ◌
 use Rattle.std.specs.Option.{option_map}
 use Rattle.std.specs.Io.KnownBytes.{append_known}
 use Rattle.cvm_outside.specs.Causes.{Rose}
-use Rattle.cvm_outside.specs.Numbering.{until_fault}
+use Rattle.cvm_outside.specs.Numbering.{counted_up, until_fault}
 use Rattle.cvm_outside.specs.Told.{AppendsPart, IsCutOff, retold, with_sector, TOO_LONG}
 use Rattle.cvm_outside.specs.declared.sink.SinkFault.{SinkFault}
 use Rattle.cvm_outside.specs.declared.sectors.DiskFault.{DiskFault}
@@ -50,11 +50,12 @@ pub record Rises (before now : ℕ) : Type 0 where
 
 -- a disk that was called once more
 abbrev pub disk_called : Drive → Drive
-disk_called d = record d { calls = until_fault d.faults d.calls }
+disk_called d = record d { calls = until_fault d.faults d.calls; all_calls = counted_up d.all_calls }
 
 -- and a shelf, which gives what it gave
 pub record ShelfCalled (old new : Files) : Type 0 where
   pub calls : new.calls ≡ until_fault old.faults old.calls
+  pub all_calls : new.all_calls ≡ counted_up old.all_calls
   pub gives : (name : List ℕ) → old.gives name ≡ true → new.gives name ≡ true
 
 -- what a call leaves that is done; the sector of one is among those that the disk has

@@ -3,7 +3,7 @@ use Rattle.std.specs.Prelude.{◌≡◌, ◌≢◌, ℕ, ◌≤◌, List, [], �
 use Rattle.std.specs.Option.{option_map}
 use Rattle.std.specs.Io.KnownBytes.{append_known}
 use Rattle.cvm_outside.specs.Told.{AppendsPart}
-use Rattle.cvm_outside.specs.Numbering.{Tally, called}
+use Rattle.cvm_outside.specs.Numbering.{Tally, called, counted_times}
 use Rattle.cvm_outside.specs.Outside.{Outside, counts, shelf_counts}
 use Rattle.cvm_outside.specs.Script.{Call, Got, Stored, Who, TheDisk, TheShelf, who, CallFailed, Performs, Rises, spoken, disk_calls, shelf_calls, sectors_after, faults_of}
 
@@ -33,21 +33,22 @@ abbrev pub MadeBy : Option Who → (made all : ℕ) → Type 0
 MadeBy None made all = made ≡ all
 MadeBy (Some whom) made all = made ≤ all
 
--- an object of which a script makes so many calls counted those that were made, and at least one where it is blamed
-pub record CallsMade (whom : Who) (all : ℕ) (before : Tally) (now : ℕ) (blamed : Option Who) : Type 0 where
+-- an object of which a script makes so many calls counted those that were made, by both counts, and at least one where it is blamed
+pub record CallsMade (whom : Who) (all : ℕ) (before now : Tally) (blamed : Option Who) : Type 0 where
   pub made : ℕ
-  pub calls : now ≡ called made before
+  pub calls : now.calls ≡ called made before
+  pub all_calls : now.all_calls ≡ counted_times made before.all_calls
   pub which : MadeBy blamed made all
   pub some : blamed ≡ Some whom → 1 ≤ made
 
 abbrev pub CountedCalls : (a : List Call) → (old new : Outside) → (blamed : Option Who) → Type 0
-CountedCalls a old new blamed = CallsMade TheDisk (disk_calls a) (counts old.disk) new.disk.calls blamed
+CountedCalls a old new blamed = CallsMade TheDisk (disk_calls a) (counts old.disk) (counts new.disk) blamed
 
 abbrev pub ScriptsCount : Type 0
 ScriptsCount = (a : List Call) (old new : Outside) (blamed : Option Who) → Performs a old new blamed → CountedCalls a old new blamed
 
 abbrev pub ShelfCounted : (a : List Call) → (old new : Outside) → (blamed : Option Who) → Type 0
-ShelfCounted a old new blamed = CallsMade TheShelf (shelf_calls a) (shelf_counts old.shelf) new.shelf.calls blamed
+ShelfCounted a old new blamed = CallsMade TheShelf (shelf_calls a) (shelf_counts old.shelf) (shelf_counts new.shelf) blamed
 
 abbrev pub ScriptsCountFiles : Type 0
 ScriptsCountFiles = (a : List Call) (old new : Outside) (blamed : Option Who) → Performs a old new blamed → ShelfCounted a old new blamed

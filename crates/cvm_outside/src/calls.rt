@@ -5,11 +5,12 @@ ghost use Rattle.cvm_outside.specs.Numbering.{fresh, counted_up, until_fault, is
 
 use std::marker::Model;
 
-/// How many faults there were, and how many calls up to the first that failed, that one with it.
+/// How many faults there were, how many calls up to the first that failed, that one with it, and how many calls in all.
 #[derive(Drop)]
 pub(crate) struct Tally {
     pub(crate) faults: u64,
     pub(crate) calls: u64,
+    pub(crate) all_calls: u64,
 }
 
 impl Tally {
@@ -17,18 +18,23 @@ impl Tally {
     pub(crate) fn new() -> Tally
         ensures faults { result.faults ≡ 0 }
         ensures calls { result.calls ≡ 0 }
+        ensures all_calls { result.all_calls ≡ 0 }
     {
         Tally {
             faults: 0,
             calls: 0,
+            all_calls: 0,
         }
     }
 
-    // Counts a call, unless one has failed before.
+    // Counts a call; up to the first that failed only where none has failed before.
     pub(crate) fn count_call(&mut self)
         ensures faults { self.new.faults ≡ self.old.faults }
         ensures calls { self.new.calls ≡ until_fault self.old.faults self.old.calls }
+        ensures all_calls { self.new.all_calls ≡ counted_up self.old.all_calls }
+        ensures more { self.old.all_calls ≤ self.new.all_calls }
     {
+        self.all_calls = self.all_calls.saturating_add(1);
         if self.faults == 0 {
             self.calls = self.calls.saturating_add(1);
         }
@@ -40,16 +46,16 @@ impl Tally {
         ensures later { self.old.faults ≤ self.new.faults }
         ensures rose { Rose self.old.faults self.new.faults }
         ensures calls { self.new.calls ≡ self.old.calls }
+        ensures all_calls { self.new.all_calls ≡ self.old.all_calls }
     {
         self.faults = self.faults.saturating_add(1);
     }
 }
 
-/// Which calls fail, how many calls came, and the counts.
+/// Which calls fail, and the counts, of which that of all calls is the number of the next.
 #[derive(Drop)]
 pub(crate) struct Calls {
     failing: Vec<u64>,
-    next: u64,
     tally: Tally,
 }
 
@@ -58,7 +64,7 @@ impl Model for Calls {
 
     ghost Value = { Numbering };
 
-    ghost view = { λ c. record { failing = c.failing.items; next = c.next; faults = c.tally.faults; sound = c.tally.calls } };
+    ghost view = { λ c. record { failing = c.failing.items; next = c.tally.all_calls; faults = c.tally.faults; sound = c.tally.calls } };
 }
 
 impl Calls {
@@ -68,7 +74,6 @@ impl Calls {
     {
         Calls {
             failing,
-            next: 0,
             tally: Tally::new(),
         }
     }
@@ -80,8 +85,7 @@ impl Calls {
         ensures sure { is_spent self.old ≡ true → result ≡ false }
         ensures spent { is_spent self.old ≡ true → is_spent self.new ≡ true }
     {
-        let listed = self.failing.contains(&self.next);
-        self.next = self.next.saturating_add(1);
+        let listed = self.failing.contains(&self.tally.all_calls);
         self.tally.count_call();
         listed
     }

@@ -82,6 +82,8 @@ impl Sectors for FileSectors {
 
     ghost calls = { λ s. s.tally.calls };
 
+    ghost all_calls = { λ s. s.tally.all_calls };
+
     fn count(&self) -> u32 {
         SECTORS
     }

@@ -97,6 +97,8 @@ impl<R: Files + Drop> Shelf for FileShelf<R> {
 
     ghost calls = { λ s. s.tally.calls };
 
+    ghost all_calls = { λ s. s.tally.all_calls };
+
     ghost gives = { λ _ _. false };
 
     fn get(&mut self, alloc: Global, name: &str) -> Result<Vec<u8>, ShelfFault> {

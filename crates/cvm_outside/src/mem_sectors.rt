@@ -57,6 +57,8 @@ impl Sectors for MemSectors {
 
     ghost calls = { λ s. s.calls.sound };
 
+    ghost all_calls = { λ s. s.calls.next };
+
     ghost sized = { λ _. refl };
 
     fn count(&self) -> u32 {

@@ -87,6 +87,8 @@ impl Shelf for MemShelf {
 
     ghost calls = { λ s. (calls_of s).sound };
 
+    ghost all_calls = { λ s. (calls_of s).next };
+
     ghost gives = { λ s n. is_sure s n };
 
     /// The bytes of the file of that name.

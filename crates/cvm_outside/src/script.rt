@@ -14,7 +14,7 @@ pub fn scripts_tell()
 {}
 
 /// A law: a script that is performed calls the disk as often as it says, and one that breaks off at most so often, and at least once where the disk is
-/// blamed.
+/// blamed; so say both counts of the disk's calls.
 pub fn scripts_count()
     ensures { ScriptsCount }
 {}

@@ -1,7 +1,7 @@
 // A disk of sectors of 1,024 words.
 ghost use Rattle.std.specs.Prelude.{All, IfSome, length, ◌≡◌, ◌<◌, ◌≢◌, ℕ, List, Option, OnOk, OnErr};
 ghost use Rattle.cvm_outside.specs.Causes.{Counts};
-ghost use Rattle.cvm_outside.specs.Numbering.{until_fault};
+ghost use Rattle.cvm_outside.specs.Numbering.{counted_up, until_fault};
 ghost use Rattle.cvm_outside.specs.Told.{Tells, IsSector, told_sector, with_sector};
 
 use thiserror::Error;
@@ -29,6 +29,9 @@ pub trait Sectors {
     /// 2^64 - 1.
     ghost calls: { Self → ℕ };
 
+    /// How many calls of `read` and `write` there were in all: a count that stands still at 2^64 - 1.
+    ghost all_calls: { Self → ℕ };
+
     /// How many sectors there are. The number never changes.
     fn count(&self) -> u32
         ensures { result ≡ size self.now };
@@ -46,7 +49,8 @@ pub trait Sectors {
         ensures whole { length into.new ≡ 1024 }
         ensures words { OnOk result (Tells (told_sector (sectors self.old) i) into.new) }
         ensures count { Counts (faults self.old) (faults self.new) result }
-        ensures called { calls self.new ≡ until_fault (faults self.old) (calls self.old) };
+        ensures called { calls self.new ≡ until_fault (faults self.old) (calls self.old) }
+        ensures all_called { all_calls self.new ≡ counted_up (all_calls self.old) };
 
     /// Replaces the words of sector `i`, from 0. After a fault that sector may hold anything, and
     /// the others are as before.
@@ -60,7 +64,8 @@ pub trait Sectors {
         ensures words { OnOk result (sectors self.new ≡ with_sector (sectors self.old) i from.now) }
         ensures torn { OnErr result ((words : List ℕ) × (sectors self.new ≡ with_sector (sectors self.old) i words)) }
         ensures count { Counts (faults self.old) (faults self.new) result }
-        ensures called { calls self.new ≡ until_fault (faults self.old) (calls self.old) };
+        ensures called { calls self.new ≡ until_fault (faults self.old) (calls self.old) }
+        ensures all_called { all_calls self.new ≡ counted_up (all_calls self.old) };
 
     /// A law: each sector that is told is 1,024 words of 32 bits.
     fn are_sectors(&self)

@@ -1,7 +1,7 @@
 // Named files.
 ghost use Rattle.std.specs.Prelude.{◌≡◌, ◌≢◌, ◌≤◌, ◌↔◌, ℕ, Bool, true, false, min, List, Option, length, IfOk, IfSome, OnOk, OnErr, IsErrOf};
 ghost use Rattle.cvm_outside.specs.Causes.{ShelfCounts};
-ghost use Rattle.cvm_outside.specs.Numbering.{until_fault};
+ghost use Rattle.cvm_outside.specs.Numbering.{counted_up, until_fault};
 ghost use Rattle.cvm_outside.specs.Told.{Tells, IsCutOff, retold, TOO_LONG};
 ghost use Rattle.cvm_outside.specs.declared.shelf.ShelfFault.TheVariants.{Failed, TooLong, Memory};
 
@@ -40,6 +40,9 @@ pub trait Shelf {
     /// 2^64 - 1. Want of memory and a file that is too long are no faults.
     ghost calls: { Self → ℕ };
 
+    /// How many calls of `get` and `put` there were in all: a count that stands still at 2^64 - 1.
+    ghost all_calls: { Self → ℕ };
+
     /// The names of which a `get` surely is not `Failed`.
     ghost gives: { Self → List ℕ → Bool };
 
@@ -58,6 +61,7 @@ pub trait Shelf {
         ensures told_long { IsErrOf result TooLong → IfSome (file self.old name.now) (λ bs. taken self.new ≡ min (length bs) TOO_LONG) }
         ensures count { ShelfCounts (faults self.old) (faults self.new) result }
         ensures called { calls self.new ≡ until_fault (faults self.old) (calls self.old) }
+        ensures all_called { all_calls self.new ≡ counted_up (all_calls self.old) }
         ensures sure { IsErrOf result Failed → gives self.old name.now ≡ false }
         ensures given { (n : List ℕ) → gives self.old n ≡ true → gives self.new n ≡ true };
 
@@ -75,5 +79,6 @@ pub trait Shelf {
         ensures taken { taken self.new ≡ taken self.old }
         ensures count { ShelfCounts (faults self.old) (faults self.new) result }
         ensures called { calls self.new ≡ until_fault (faults self.old) (calls self.old) }
+        ensures all_called { all_calls self.new ≡ counted_up (all_calls self.old) }
         ensures given { (n : List ℕ) → gives self.old n ≡ true → gives self.new n ≡ true };
 }

@@ -6,7 +6,7 @@ ghost use Rattle.cvm_outside.specs.Script.{Read, Wrote, Prints, Asks};
 use crate::sectors::{DiskFault, Sectors};
 use crate::sink::{Sink, SinkFault};
 
-/// Prints a text, by one call. After a fault a prefix of it was printed.
+/// Prints a text. After a fault a prefix of it was printed.
 ///
 /// # Errors
 ///

@@ -40,8 +40,10 @@ impl Sectors for SureSectors {
 
     ghost faults = { λ _. 0 };
 
-    // No call fails, so none is told from another: the count stands at its last value.
+    // No call fails, so none is told from another: both counts stand at their last value.
     ghost calls = { λ _. 2 ^ 64 - 1 };
+
+    ghost all_calls = { λ _. 2 ^ 64 - 1 };
 
     fn count(&self) -> u32 {
         self.inner.count()

@@ -108,7 +108,7 @@ module _ (old new : Seen) (names : List (List ℕ)) (next : List (List ℕ) → 
 
   pub all_stop : (s : Stop) → OnlyLong s → ((sink : Output) (disk : Drive) → StopGets names (beside sink disk old) (beside sink disk new) s) → IfRefused (Of names) s
   all_stop (Refused r) only h =
-      let disk : Drive = record { sectors = None; size = 0; faults = 0; calls = 0 } in
+      let disk : Drive = record { sectors = None; size = 0; faults = 0; calls = 0; all_calls = 0 } in
       let l = subst (λ (x : ByCode). StopGets names (beside no_output disk old) (beside no_output disk new) (Refused x)) only (h no_output disk) in
       subst (λ (x : ByCode). Of names (refuses (refusal_view x))) (sym only) (is_long no_output disk l)
   all_stop Shelf only h = tt

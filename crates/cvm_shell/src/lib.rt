@@ -89,7 +89,7 @@ use std::alloc::Global;
 ///
 /// How it ends is said once, for every command (`script`): by the script of calls that words and files ask for. What is promised of a run
 /// follows from that, by laws of `run_scripts`: the headline, that enough steps are enough, isolation, what a `yes` means, and saves and resumes are clauses
-/// here; why a status is what it is, and what stands after a fault, are laws there.
+/// here; why a status is what it is, how the machine rests at the end, and what stands after a fault, are laws there.
 pub fn run<S: Shelf, O: Sink, D: Sectors>(
     alloc: Global,
     words: &Vec<String>,

@@ -36,8 +36,12 @@ use Rattle.run_scripts.specs.Boot.{booted, environment_of, start_state, sectors_
 use Rattle.run_scripts.specs.Isolation.{IsolatedTrace, session_lines}
 use Rattle.run_scripts.specs.Saves.{Stopped, IsSavedIn, SaveHolds, as_boot, is_saved}
 use Rattle.run_scripts.specs.Resumes.{IsBootBehind}
+use Rattle.run_scripts.specs.CommandEnds.{EndsRest}
+use Rattle.run_scripts.specs.Promises.{MachinesRest}
+use Rattle.run_scripts.specs.SessionRuns.{run_of}
+use Rattle.run_scripts.specs.Headline.{EndIsOver}
 use Rattle.kernel_boots.specs.Boots.{SessionStands, BootStands}
-use Rattle.kernel_boots.specs.Stands.{entries_under_way, TraceTextOf, TraceStandsAt, TracesStand, SavedStands, SaveStands, SavesStand, ResumesStand}
+use Rattle.kernel_boots.specs.Stands.{entries_under_way, TraceTextOf, TraceStandsAt, TracesStand, SavedStands, SaveStands, SavesStand, ResumesStand, StatesRest}
 use Rattle.kernel_boots.proofs.EightLines.{eight_of, turns_have_eight}
 use Rattle.kernel_boots.proofs.StatesShown.{RunsAreOne, ones, stands, asked_eight}
 
@@ -99,7 +103,8 @@ module _ (laws : RunsAreLawful) (replays : UnitsReplay) (isolated : Isolated) (s
         status_is = h.status_is ∙ ap status_of_end (h.ran.status ∙ ap (ending x m session.turns session.steps) same);
         replayed = isolated y (lines_of_turn x m) units (complete x m t) u c (replays s.unit s.params) user.0 user.1 is;
         text_is = text_is;
-        over = λ e. subst (TurnIsOver x y m session.turns t) same (h.ran.over e);
+        few = h.ran.few;
+        over = λ e. subst (λ (d : Cvm). (complete x m t ≡ session.turns) ⊎ (d.status ≢ Running)) same (h.ran.over e);
       }
 
   spent : session.view ≡ view.Trace u → status ≡ statuses.StepLimit → Stands h.text
@@ -195,11 +200,11 @@ stood_there x y s one count sums (suc few) steps at past last some end within on
     record { cvm = is; turn = sym all.1 ∙ all.0; all = all.0; rests = rests }
 
 saved_stands : RunsAreLawful → TurnLaws → SumLaws → (c : Save) (s : ImageSystem) (rows : Rows) (before : List (List ℕ)) (old new : Outside) → 1 ≤ c.boot.turns
-    → Stopped (save_session c) s rows before old new (IsSavedIn c.file old new) → SavedStands c s rows before old new
-saved_stands laws count sums c s rows before old new some h =
+    → EndIsOver (run_of (save_session c) s rows old.disk.size before) → Stopped (save_session c) s rows before old new (IsSavedIn c.file old new) → SavedStands c s rows before old new
+saved_stands laws count sums c s rows before old new some rests h =
     let w : SavedAt (environment_of rows old) (booted s rows) (start_state (save_session c) s rows before) c.boot.turns c.boot.steps h.words h.after h.shown = h.saved_at in
     let stood : Stood (environment_of rows old) (booted s rows) (start_state (save_session c) s rows before) c.boot.turns w.at w.past =
-    stood_there (environment_of rows old) (booted s rows) (start_state (save_session c) s rows before) (ones laws s rows) count sums c.boot.turns c.boot.steps w.at w.past h.ran.past some w.end w.within w.on w.cvm h.ran.cvm h.ran.over in
+    stood_there (environment_of rows old) (booted s rows) (start_state (save_session c) s rows before) (ones laws s rows) count sums c.boot.turns c.boot.steps w.at w.past h.ran.past some w.end w.within w.on w.cvm h.ran.cvm (rests h.ran.past h.ran.cvm) in
     record {
       state = w.past;
       is = w.cvm;
@@ -213,15 +218,15 @@ saved_stands laws count sums c s rows before old new some h =
     }
 
 save_stands : RunsAreLawful → TurnLaws → SumLaws → (c : Save) (s : ImageSystem) (rows : Rows) (before : List (List ℕ)) (status : Status) (old new : Outside) → 1 ≤ c.boot.turns → AreFilesOf old.shelf.file c.boot s rows
-    → SaveHolds c s rows before old new status → SaveStands c s rows before status old new
-save_stands laws count sums c s rows before status old new some files (as_boot h halted others) =
+    → EndIsOver (run_of (save_session c) s rows old.disk.size before) → SaveHolds c s rows before old new status → SaveStands c s rows before status old new
+save_stands laws count sums c s rows before status old new some files rests (as_boot h halted others) =
     record { shows = inl (boot_stands laws (save_session c) s rows before status old new refl h); eight = files_eight old.shelf.file c s rows before old files }
-save_stands laws count sums c s rows before status old new some files (is_saved done others stopped) =
-    record { shows = inr (done, saved_stands laws count sums c s rows before old new some stopped); eight = files_eight old.shelf.file c s rows before old files }
+save_stands laws count sums c s rows before status old new some files rests (is_saved done others stopped) =
+    record { shows = inr (done, saved_stands laws count sums c s rows before old new some rests stopped); eight = files_eight old.shelf.file c s rows before old files }
 
 pub saves_stand : RunsAreLawful → TurnLaws → SumLaws → SavesStand
-saves_stand laws count sums words status old new saves c s rows before honest some =
-    save_stands laws count sums c s rows before status old new honest.asked.some_turns honest.files (saves c s rows before honest some)
+saves_stand laws count sums words status old new saves rest c s rows before honest some =
+    save_stands laws count sums c s rows before status old new honest.asked.some_turns honest.files (rest.of_saves c s rows before honest some) (saves c s rows before honest some)
 
 -- A RESUME
 pub resumes_stand : RunsAreLawful → ResumesStand
@@ -235,4 +240,17 @@ resumes_stand laws words status old new resumes c s rows machine left before sho
           (shown ++ j.text) j.ran);
       eight = files_eight old.shelf.file c s rows before old honest.files;
       goes_on = j.goes_on;
+    }
+
+-- AT REST: the machine stands for the state that each of these has
+pub states_rest : MachinesRest → StatesRest
+states_rest law words status old new ends =
+    let rest : EndsRest words status old new = law words old new status ends in
+    record {
+      of_boots = λ session s rows before honest some text w. rest.of_boots session s rows before honest some w.state w.is;
+      of_traces = λ session u s rows before honest some a.
+          rest.of_boots session s rows before honest some a.stands.state (record { units = a.stands.units; is = a.stands.run });
+      of_saves = λ c s rows before honest some text w. rest.of_saves c s rows before honest some w.state w.is;
+      of_resumes = λ c s rows machine left before shown honest some w a.
+          rest.of_resumes c s rows machine left before shown honest some w a.stands.state a.stands.is;
     }

@@ -82,6 +82,7 @@ module _ (x : Environment) (y : System) (one : RunsAreOne y) (s : State) (held :
         is = h.cvm;
         status_is = ap status_of_end h.status;
         text_is = subst (λ (c : Cvm). TextOfState y (status_of_end e) c text) same (status_text y e t.0 text t.2);
+        few = h.few;
         over = h.over;
       }
 

@@ -155,11 +155,11 @@ module _ (laws : RunsAreLawful) (counts : TurnLaws) (small : BoundsAreSmall) (ta
     over zero e on = ⊎_elim
         (λ (all : turns_made x s turns steps ≡ turns). let some = ends.some in absurd (omega (arith, all, e, some, enough)))
         (λ (off : w.state.status ≢ Running). off (first_runs w.state (subst (λ j. IsCvm y (lines_of_turn x s) j w.state) e w.is)))
-        (w.over ended).over
+        (w.over ended)
     over (suc k) e on = ⊎_elim
         (λ (all : turns_made x s turns steps ≡ turns). ends_below Fit I lines most (suc k) (dispatches_of y (lines_of_turn x s) n (suc k)) w.state ends.below (under_lines k) (omega (arith, e, all, enough)) (holds k e) on)
         (λ (off : w.state.status ≢ Running). off on)
-        (w.over ended).over
+        (w.over ended)
 
     halts : HasHalted x y s turns steps status text w
     halts =

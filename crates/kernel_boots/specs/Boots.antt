@@ -1,6 +1,6 @@
 -- What each boot of an image shows, where each state of the abstract run has a property: over the headline of `run` (`Headlines` of
 -- run_scripts/specs/CommandEnds) as it stands.
-use Rattle.std.specs.Prelude.{◌≡◌, ◌≢◌, true, ℕ, List, Option, Ok}
+use Rattle.std.specs.Prelude.{◌≡◌, ◌≢◌, ◌⊎◌, ◌≤◌, true, ℕ, List, Option, Ok}
 use Rattle.std.specs.Io.KnownBytes.{append_known}
 use Rattle.schedule_file.specs.Rows.{Rows}
 use Rattle.boot_image.specs.Parts.{ImageParts as Image}
@@ -11,9 +11,8 @@ use Rattle.mips_table.specs.Turns.{complete, lines_of_turn, is_end, end_within}
 use Rattle.boot_turns.specs.declared.answers.View.TheVariants.{Boot}
 use Rattle.run_scripts.specs.RunStatus.{status_of_end}
 use Rattle.run_scripts.specs.RanFrom.{ending}
-use Rattle.boot_turns.specs.TurnEnds.{TurnIsOver}
 use Rattle.c0_types.specs.Front.{IsUnitOf}
-use Rattle.cvm_model.specs.Cvm.{System, Cvm, IsCvm}
+use Rattle.cvm_model.specs.Cvm.{System, Running, Cvm, IsCvm}
 use Rattle.cvm_model.specs.Invariant.{HasEight, IsSafe}
 use Rattle.cvm_model.specs.Text.{rows_text, boot_text}
 use Rattle.kernel_linker.specs.Accept.{ImageSystem}
@@ -42,13 +41,14 @@ abbrev pub turns_made : Environment → State → (turns steps : ℕ) → ℕ
 turns_made x s turns steps = complete x s (end_within x s turns steps)
 
 -- WHERE A RUN STANDS at the headline's step: at the state of its own turns, with the lines that its machine met. Status and text are by that state; and
--- where the run ended, its turns are complete or it has halted or faulted, and the machine rests as the status says and stands for that state.
+-- where the run ended, its turns are complete or it has halted or faulted. How the machine rests there says `StatesRest`.
 pub record StandsAt (x : Environment) (y : System) (s : State) (turns steps : ℕ) (status : Status) (text : List ℕ) : Type 0 where
   pub state : Cvm
   pub is : IsCvm y (lines_of_turn x s) (turns_made x s turns steps) state
   pub status_is : status ≡ status_of_end (ending x s turns steps state)
   pub text_is : TextOfState y status state text
-  pub over : is_end x s turns (end_within x s turns steps) ≡ true → TurnIsOver x y s turns (end_within x s turns steps) state
+  pub few : is_end x s turns (end_within x s turns steps) ≡ true → turns_made x s turns steps ≤ turns
+  pub over : is_end x s turns (end_within x s turns steps) ≡ true → (turns_made x s turns steps ≡ turns) ⊎ (state.status ≢ Running)
 
 -- a text is that of the state where a run stands, which has the property
 pub record Shows (x : Environment) (y : System) (s : State) (turns steps : ℕ) (P : OfStates) (status : Status) (text : List ℕ) : Type 0 where

@@ -17,7 +17,7 @@ use Rattle.boot_turns.specs.declared.answers.View.TheVariants as view
 use Rattle.run_scripts.specs.RunStatus.{status_of_end}
 use Rattle.run_scripts.specs.RanFrom.{ending}
 use Rattle.boot_turns.specs.Trace.{entries_so_far}
-use Rattle.boot_turns.specs.TurnEnds.{first_user_machine, TurnIsOver, Stood}
+use Rattle.boot_turns.specs.TurnEnds.{first_user_machine, Stood, TurnIsOver}
 use Rattle.kernel_linker.specs.Accept.{ImageSystem}
 use Rattle.run_scripts.specs.declared.exit_status.Status.{Status}
 use Rattle.run_scripts.specs.declared.exit_status.Status.TheVariants.{Done, StepLimit, Memory}
@@ -25,8 +25,9 @@ use Rattle.run_scripts.specs.declared.session.Session.{Session}
 use Rattle.run_scripts.specs.Command.{Save, save_session}
 use Rattle.cvm_outside.specs.Outside.{Outside}
 use Rattle.run_scripts.specs.Boot.{booted, environment_of, start_state, SessionGoesOn, IsHonest}
-use Rattle.run_scripts.specs.CommandEnds.{Headlines, Isolates}
+use Rattle.run_scripts.specs.CommandEnds.{Headlines, Isolates, EndsRest}
 use Rattle.run_scripts.specs.Isolation.{session_lines}
+use Rattle.run_scripts.specs.Ends.{Ends}
 use Rattle.run_scripts.specs.Saves.{IsHonestSave, Saves}
 use Rattle.run_scripts.specs.Resumes.{IsHonestResume, IsSavedRun, Resumes}
 use Rattle.kernel_boots.specs.Boots.{turns_made, SessionStands, BootStands}
@@ -52,7 +53,8 @@ pub record TraceStandsAt (x : Environment) (y : System) (s : State) (turns steps
   pub replayed : replay (first_user_machine y u) (journal y (lines_of_turn x s) units u (turns_made x s turns steps)) ≡ Some (user_of state.core.users u)
   pub text_is : TraceTextOf u (first_user_machine y u) (journal y (lines_of_turn x s) units u (turns_made x s turns steps))
       (entries_under_way x y s units u (end_within x s turns steps)) status state text
-  pub over : is_end x s turns (end_within x s turns steps) ≡ true → TurnIsOver x y s turns (end_within x s turns steps) state
+  pub few : is_end x s turns (end_within x s turns steps) ≡ true → turns_made x s turns steps ≤ turns
+  pub over : is_end x s turns (end_within x s turns steps) ≡ true → (turns_made x s turns steps ≡ turns) ⊎ (state.status ≢ Running)
 
 -- A TRACE STANDS SO: what it printed is the text of the state where its run stands
 pub record TraceStands (session : Session) (u : ℕ) (s : ImageSystem) (rows : Rows) (before : List (List ℕ)) (status : Status) (old new : Outside) :
@@ -87,9 +89,9 @@ pub record SaveStands (c : Save) (s : ImageSystem) (rows : Rows) (before : List 
   pub shows : BootStands (save_session c) s rows before status old new ⊎ ((status ≡ Done) × SavedStands c s rows before old new)
   pub eight : HasEight (session_lines (save_session c) s rows old before)
 
--- a law: so does each save with no failed call, by `saves_are_held`
+-- a law: so does each save with no failed call, by `saves_are_held` and `machines_rest` of run_scripts
 abbrev pub SavesStand : Type 0
-SavesStand = (words : List (List ℕ)) (status : Status) (old new : Outside) → Saves words status old new
+SavesStand = (words : List (List ℕ)) (status : Status) (old new : Outside) → Saves words status old new → EndsRest words status old new
     → (c : Save) (s : ImageSystem) (rows : Rows) (before : List (List ℕ)) → IsHonestSave words c s rows before old new → status ≢ Memory
     → SaveStands c s rows before status old new
 
@@ -109,3 +111,26 @@ ResumesStand = (words : List (List ℕ)) (status : Status) (old new : Outside) �
     → (c : Save) (s : ImageSystem) (rows : Rows) (machine : List ℕ) (left before : List (List ℕ)) (shown : List ℕ)
     → IsHonestResume words c s rows machine left old new → status ≢ Memory → IsSavedRun c s rows machine left before shown old
     → ResumeStands c s rows before shown status old new
+
+-- where a run from there ended, the machine rests as this state says, and stands for it
+abbrev pub EndRests : Session → ImageSystem → Rows → (before : List (List ℕ)) → Outside → Cvm → Type 0
+EndRests session s rows before old c =
+    let x = environment_of rows old in
+    let first = start_state session s rows before in
+    let t = end_within x first session.turns session.steps in is_end x first session.turns t ≡ true → TurnIsOver x (booted s rows) first session.turns t c
+
+-- AT REST: so it is of the state where the run of a boot, a trace, a save or a resume stands, and so of the states of all corollaries
+pub record StandsAtRest (words : List (List ℕ)) (status : Status) (old new : Outside) : Type 0 where
+  pub of_boots : (session : Session) (s : ImageSystem) (rows : Rows) (before : List (List ℕ)) → IsHonest words session s rows before old new → status ≢ Memory
+      → (text : List ℕ) (w : SessionStands session s rows before old status text) → EndRests session s rows before old w.state
+  pub of_traces : (session : Session) (u : ℕ) (s : ImageSystem) (rows : Rows) (before : List (List ℕ)) → IsHonest words session s rows before old new
+      → status ≢ Memory → (a : TraceStands session u s rows before status old new) → EndRests session s rows before old a.stands.state
+  pub of_saves : (c : Save) (s : ImageSystem) (rows : Rows) (before : List (List ℕ)) → IsHonestSave words c s rows before old new → status ≢ Memory
+      → (text : List ℕ) (w : SessionStands (save_session c) s rows before old status text) → EndRests (save_session c) s rows before old w.state
+  pub of_resumes : (c : Save) (s : ImageSystem) (rows : Rows) (machine : List ℕ) (left before : List (List ℕ)) (shown : List ℕ)
+      → IsHonestResume words c s rows machine left old new → status ≢ Memory → IsSavedRun c s rows machine left before shown old
+      → (a : ResumeStands c s rows before shown status old new) → EndRests (save_session c) s rows before old a.stands.state
+
+-- a law, by `machines_rest` of run_scripts
+abbrev pub StatesRest : Type 0
+StatesRest = (words : List (List ℕ)) (status : Status) (old new : Outside) → Ends words old new status → StandsAtRest words status old new

@@ -8,7 +8,7 @@ ghost use Rattle.kernel_boots.specs.Guardeds.{GuardedKernelsBoot};
 ghost use Rattle.kernel_boots.specs.Mailboxes.{MailboxesBoot};
 ghost use Rattle.kernel_boots.specs.RoundRobins.{RoundRobinsBoot};
 ghost use Rattle.kernel_boots.specs.Semaphores.{SemaphoresBoot};
-ghost use Rattle.kernel_boots.specs.Stands.{ResumesStand, SavesStand, TracesStand};
+ghost use Rattle.kernel_boots.specs.Stands.{ResumesStand, SavesStand, StatesRest, TracesStand};
 ghost use Rattle.kernel_boots.specs.Systems.{BootsAreChains};
 
 use cvm_model::reasoning::{runs_are_chains, runs_are_lawful};
@@ -20,6 +20,7 @@ use kernel_theorems::round_robin::{round_robin_is_fair, text_is_round_robin};
 use kernel_theorems::semaphore::{at_most_one_is_inside, text_is_semaphore};
 use kernel_theorems::texts_mean_trees;
 use mips_table::runs::{runs_are_taken_up, turns_are_counted};
+use run_scripts::laws::machines_rest;
 
 pub mod separation;
 
@@ -30,16 +31,15 @@ pub fn boots_run_their_source()
     accepted_systems_are_of_their_images();
 }
 
-/// A law: each boot with no failed call printed the text of the state of its own run at the step where it ended, its status is by that state, and the machine
-/// rests as that state says.
+/// A law: each boot with no failed call printed the text of the state of its own run at the step where it ended, and its status is by that state.
 pub fn boots_show_their_states()
     ensures { BootsStand }
 {
     runs_are_lawful();
 }
 
-/// A law: each trace with no failed call printed the user's journal, and the user's machine, of the state of its own run at the step where it ended; its
-/// status is by that state, and the machine rests as that state says.
+/// A law: each trace with no failed call printed the user's journal, and the user's machine, of the state of its own run at the step where it ended, and
+/// its status is by that state.
 pub fn traces_show_their_states()
     ensures { TracesStand }
 {
@@ -63,6 +63,13 @@ pub fn resumes_show_their_states()
     ensures { ResumesStand }
 {
     runs_are_lawful();
+}
+
+/// A law: where such a run ended, of a boot, a trace, a save or a resume, the machine rests as the state says at which it stands, and stands for it.
+pub fn states_rest()
+    ensures { StatesRest }
+{
+    machines_rest();
 }
 
 /// A law: the state that a boot shows is reached by a chain of dispatches from the start, whose rows it printed, whatever its kernel and its users are.

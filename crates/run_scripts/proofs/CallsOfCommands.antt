@@ -4,7 +4,7 @@ use Rattle.std.proofs.Common.{◌≡◌, ◌≢◌, ℕ, ◌+◌, suc, List, [],
 use Rattle.run_scripts.specs.Command.{Command, IsCommand, save, resume}
 use Rattle.run_scripts.specs.Refusal.{too_long}
 use Rattle.run_scripts.specs.Plan.{Plan, bad_words, refuses}
-use Rattle.cvm_outside.specs.Numbering.{called}
+use Rattle.cvm_outside.specs.Numbering.{called, counted_times}
 use Rattle.cvm_outside.specs.Outside.{Outside, shelf_counts}
 use Rattle.cvm_outside.specs.Script.{Call, Printed, Read, Wrote, Got, Stored, Who, Performs, done as all_done, breaks, goes_on, disk_calls, shelf_calls}
 use Rattle.cvm_outside.specs.ScriptLaws.{MadeBy, ScriptsBlame, ScriptsCountFiles}
@@ -126,4 +126,7 @@ shelf_is_called count words c old new status is h short none =
     let script : shelf_calls h.script ≡ length (puts_in h.script) = puts_call h.script s.gets in
     let sum : k.made ≡ length (files_of c) + length (puts_in h.script) =
     made ∙ calls_both h.got h.script ∙ ap (λ (n : ℕ). n + shelf_calls h.script) got ∙ ap (λ (n : ℕ). length (files_of c) + n) script in
-    k.calls ∙ ap (λ (n : ℕ). called n (shelf_counts old.shelf)) sum
+    record {
+      calls = k.calls ∙ ap (λ (n : ℕ). called n (shelf_counts old.shelf)) sum;
+      all_calls = k.all_calls ∙ ap (λ (n : ℕ). counted_times n old.shelf.all_calls) sum;
+    }

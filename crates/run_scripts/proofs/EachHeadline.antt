@@ -16,7 +16,7 @@ use Rattle.run_scripts.specs.Keys.{ScriptLaws}
 use Rattle.run_scripts.proofs.NothingElseRefused.{none_blamed, status_due, plan_asks, no_file_failed}
 use Rattle.run_scripts.proofs.SavesComplete.{told_asks}
 use Rattle.run_scripts.proofs.ScriptsTell.{Tells}
-use Rattle.run_scripts.proofs.RunKeys.{scripts_tell_the_text, scripts_store_the_sectors, sectors_behind_stay, ends_are_over}
+use Rattle.run_scripts.proofs.KeysOfEachRun.{scripts_tell_the_text, scripts_store_the_sectors, sectors_behind_stay, ends_are_over}
 
 pub headlines : ScriptLaws → Headlines
 headlines law words session s rows before old new status a f (done _ h) m =
@@ -41,7 +41,7 @@ headlines law words session s rows before old new status a f (done _ h) m =
       };
       status_is = status_due law.blame words old new status h n ∙ t.status_is;
       text = text.printed ∙ ap (append_known old.sink.text) (sym text.is);
-      over = ends_are_over law.runs words _ session s rows before old a t.past t.is_past;
+      over = ends_are_over law.runs words _ session s rows before old a;
     }
 headlines law words session s rows before old new status a f (no_file c i g) m = absurd (no_file_failed law.blame words c old new i f.shelf g)
 headlines law words session s rows before old new status a f (no_memory c i w) m = absurd (m refl)

@@ -15,7 +15,7 @@ mod LastingProperties
 pub mod ScriptsStore
 pub mod StartSectors
 pub mod StoredRuns
-pub mod RunKeys
+pub mod KeysOfEachRun
 pub mod OneCommand
 pub mod CommandOutcomes
 pub mod ScriptCalls
@@ -30,7 +30,7 @@ pub mod BrokenScripts
 pub mod SectorsBehind
 pub mod RunFaults
 pub mod SaveFaults
-pub mod FaultLaws
+pub mod FaultsLeave
 pub mod YesIsEnough
 mod TurnsRise
 mod SavesJoin
@@ -42,5 +42,6 @@ mod ResumedMachines
 mod OtherDisks
 pub mod RunPromises
 pub mod PromisedSaves
+pub mod MachinesRest
 mod ResumeFaults
 pub mod PromisesByRuns

@@ -47,7 +47,7 @@ use Rattle.run_scripts.proofs.PlansAreAsked.{asked_save, asked_resume}
 use Rattle.run_scripts.proofs.StatusesCaused.{mid_disk}
 use Rattle.run_scripts.proofs.RunsComplete.{run_done, it_goes_on}
 use Rattle.run_scripts.proofs.ResumeScripts.{saved_joins}
-use Rattle.run_scripts.proofs.RunKeys.{known, ends_are_over, sectors_behind_stay}
+use Rattle.run_scripts.proofs.KeysOfEachRun.{known, ends_are_over, sectors_behind_stay}
 use Rattle.run_scripts.proofs.RowsAlongRuns.{Known, founded}
 use Rattle.run_scripts.proofs.PerformedScripts.{Says, says_text, leaves_sectors}
 use Rattle.run_scripts.proofs.RunPromises.{told_disk, was_done, plan_finds, ran, headline_told}
@@ -64,7 +64,7 @@ use Rattle.cvm_outside.specs.Causes.{Rose}
 use Rattle.run_scripts.proofs.OneCommand.{one_command}
 
 -- THE PREMISES
-asked_save_of : (words : List (List ℕ)) (c : Save) (s : ImageSystem) (rows : Rows) (before : List (List ℕ)) (old new : Outside) (status : Status) → WasDone words old new status
+pub asked_save_of : (words : List (List ℕ)) (c : Save) (s : ImageSystem) (rows : Rows) (before : List (List ℕ)) (old new : Outside) (status : Status) → WasDone words old new status
     → IsHonestSave words c s rows before old new → Asked words (saves (save_session c) s rows c.file) (save_session c) s rows before old
 asked_save_of words c s rows before old new status d h =
     let p = asked_save words c s rows before old new h in
@@ -80,7 +80,7 @@ asked_save_of words c s rows before old new status d h =
       enough = h.enough;
     }
 
-asked_resume_of : (words : List (List ℕ)) (c : Save) (s : ImageSystem) (rows : Rows) (machine : List ℕ) (left : List (List ℕ)) (old new : Outside) (status : Status) → WasDone words old new status
+pub asked_resume_of : (words : List (List ℕ)) (c : Save) (s : ImageSystem) (rows : Rows) (machine : List ℕ) (left : List (List ℕ)) (old new : Outside) (status : Status) → WasDone words old new status
     → IsHonestResume words c s rows machine left old new → Asked words (resumes (save_session c) s rows machine) (save_session c) s rows left old
 asked_resume_of words c s rows machine left old new status d h =
     let p = asked_resume words c s rows machine left old new h in
@@ -103,7 +103,7 @@ same_cvm a b e = cc
 not_halted : Running ≡ Halted → ⊥
 not_halted e = cc
 
-module _ (r : Run) (p : Past) (is : IsPast r p) (over : EndIsOver r p) where
+module _ (r : Run) (p : Past) (is : IsPast r p) (over : EndIsOver r) where
   abbrev n : ℕ
   n = steps_made r
 
@@ -113,7 +113,7 @@ module _ (r : Run) (p : Past) (is : IsPast r p) (over : EndIsOver r p) where
 
   halts : (b : Bool) → has_ended r ≡ b → (st : CvmStatus) → (cvm_at r p n).status ≡ st → ((b ≡ true) × (st ≡ Running) → ⊥) → end_by b st ≡ IsDone → (state_at r n).off ≡ Some 0
   halts true e Running s never d = absurd (never (refl, refl))
-  halts true e Halted s never d = rests_halted (turns_at r n) (over e).rests (is.turns (turns_at r n) (omega arith)) s
+  halts true e Halted s never d = let c = is.turns (turns_at r n) (omega arith) in rests_halted (turns_at r n) (over (cvm_at r p n) c e).rests c s
   halts true e (Faulted f) s never d = absurd (cc)
   halts false e st s never d = absurd (cc)
 
@@ -188,7 +188,7 @@ module _ (law : LawsOfRuns) (read : AnswersAreResumable machine_of) (words : Lis
       by (inr u) = as_its_boot u
 
 -- NO CALL of its command failed
-no_save_failed : (words : List (List ℕ)) (c : Save) (s : ImageSystem) (rows : Rows) (before : List (List ℕ)) (old new : Outside) → IsHonestSave words c s rows before old new → NoneFailed words old new
+pub no_save_failed : (words : List (List ℕ)) (c : Save) (s : ImageSystem) (rows : Rows) (before : List (List ℕ)) (old new : Outside) → IsHonestSave words c s rows before old new → NoneFailed words old new
 no_save_failed words c s rows before old new h = record { shelf = λ d also. inr h.unfailed.shelf; sink = h.unfailed.sink; disk = h.unfailed.disk }
 
 pub saves_are_held : ScriptLaws → FileLaws → AnswersAreResumable machine_of → SavesAreHeld
@@ -296,7 +296,7 @@ module _ (law : ScriptLaws) (read : AnswersAreResumable machine_of) (goes : ItGo
         let leaves : sectors_after (rest_script whole p at) left ≡ (state_at whole (steps_made whole)).device.sectors =
         ap (sectors_after (rest_script whole p at)) w.saved_at.left_is ∙ rest_leaves law.runs.count whole p at none_later in
         let text : whole_text whole p ≡ shown ++ t.text = t.is ∙ ap (λ (x : Cvm). rows_text x.rows ++ t.text) same ∙ ap (λ (l : List ℕ). l ++ t.text) (sym w.saved_at.shown_is) in
-        let over : EndIsOver whole p = ends_are_over law.runs words _ (save_session c) s rows before (with_disk old before) asked p past in
+        let over : EndIsOver whole = ends_are_over law.runs words _ (save_session c) s rows before (with_disk old before) asked in
         let held : ℕ = sectors_needed (save_session c) s rows in
         record {
           after = (state_at whole (steps_made whole)).device.sectors;
@@ -328,7 +328,7 @@ module _ (law : ScriptLaws) (read : AnswersAreResumable machine_of) (goes : ItGo
   its_past : (p : Past) × IsPast whole p
   its_past = past_of whole (founded whole its)
 
-no_resume_failed : (words : List (List ℕ)) (c : Save) (s : ImageSystem) (rows : Rows) (machine : List ℕ) (left : List (List ℕ)) (old new : Outside)
+pub no_resume_failed : (words : List (List ℕ)) (c : Save) (s : ImageSystem) (rows : Rows) (machine : List ℕ) (left : List (List ℕ)) (old new : Outside)
     → IsHonestResume words c s rows machine left old new → NoneFailed words old new
 no_resume_failed words c s rows machine left old new h = record {
   shelf = λ d also. subst (λ (x : Command). ShelfServes x old new) (one_command words (resume c) d h.asked also) (by h.served.shelf);

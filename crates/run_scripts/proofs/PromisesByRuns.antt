@@ -45,7 +45,7 @@ pub record Headline (r : Run) (held : ℕ) (before : List (List ℕ)) (old new :
   pub machine : Sectors r held before (steps_made r) new.disk.sectors
   pub status_is : status ≡ run_status r past
   pub text : new.sink.text ≡ append_known old.sink.text (whole_text r past)
-  pub over : EndIsOver r past
+  pub over : EndIsOver r
 
 abbrev pub Headlines : Type 0
 Headlines = (words : List (List ℕ)) (session : Session) (s : ImageSystem) (rows : Rows) (before : List (List ℕ)) (old new : Outside) (status : Status) →
@@ -130,7 +130,7 @@ pub record SavedSo (c : Save) (s : ImageSystem) (rows : Rows) (r : Run) (before 
   pub is_past : IsPast r past
   pub machine : Sectors r (sectors_needed (save_session c) s rows) before (steps_made r) new.disk.sectors
   pub status_is : status ≡ run_status r past
-  pub over : EndIsOver r past
+  pub over : EndIsOver r
   pub which : IsSaved c s rows r past old new ⊎ IsUnsaved r past old new
   pub others : (n : List ℕ) → n ≢ c.file → new.shelf.file n ≡ old.shelf.file n
 

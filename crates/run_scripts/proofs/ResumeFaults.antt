@@ -33,9 +33,9 @@ use Rattle.run_scripts.specs.Headline.{Asked, ended_text, text_at, whole_text}
 use Rattle.run_scripts.specs.Keys.{ScriptLaws}
 use Rattle.run_scripts.specs.Saving.{GoesOnAsBoot}
 use Rattle.run_scripts.proofs.BrokenScripts.{Broken, in_first, in_second, part, within, not_none, blames}
-use Rattle.run_scripts.proofs.FaultLaws.{Three, Four, of_three, not_shelf, not_memory, spent}
+use Rattle.run_scripts.proofs.FaultsLeave.{Three, Four, of_three, not_shelf, not_memory, spent}
 use Rattle.run_scripts.proofs.ResumeScripts.{resumes_join}
-use Rattle.run_scripts.proofs.RunKeys.{known}
+use Rattle.run_scripts.proofs.KeysOfEachRun.{known}
 use Rattle.run_scripts.proofs.ScriptsMadeOf.{of_report, of_rows}
 use Rattle.run_scripts.proofs.RowsAlongRuns.{Known}
 use Rattle.run_scripts.proofs.PerformedScripts.{says_text}

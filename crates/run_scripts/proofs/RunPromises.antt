@@ -58,7 +58,7 @@ was_done blame words old new status (no_memory c i w) f m = absurd (m refl)
 pub plan_finds : (words : List (List ℕ)) (old new : Outside) (status : Status) → WasDone words old new status → (p : Plan) → AllTold words old.shelf.file → PlanComesTo words old.shelf.file p → PlanFinds p words old
 plan_finds words old new status h p told comes = subst (λ (q : Plan). PlanFinds q words old) (sym (h.is_plan.only told p comes)) h.finds
 
-asked_of : (words : List (List ℕ)) (session : Session) (s : ImageSystem) (rows : Rows) (before : List (List ℕ)) (old new : Outside) (status : Status) → WasDone words old new status → IsHonest words session s rows before old new
+pub asked_of : (words : List (List ℕ)) (session : Session) (s : ImageSystem) (rows : Rows) (before : List (List ℕ)) (old new : Outside) (status : Status) → WasDone words old new status → IsHonest words session s rows before old new
     → Asked words (boots session s rows) session s rows before old
 asked_of words session s rows before old new status d h =
     let p = asked_plan words old.shelf.file session s rows h.asked in
@@ -103,7 +103,7 @@ module _ (r : Run) (p : Past) (is : IsPast r p) where
   text_so false st = so_far r.view refl
 
   -- WITH NO FAILED CALL the run is what the abstract run says
-  pub ran : (held : ℕ) (before : List (List ℕ)) → Sectors r held before n (Some (state_at r n).device.sectors) → EndIsOver r p
+  pub ran : (held : ℕ) (before : List (List ℕ)) → Sectors r held before n (Some (state_at r n).device.sectors) → EndIsOver r
       → RanFrom r.around r.system r.first held before (state_at r n).device.sectors r.view r.turns r.steps (ending r.around r.first r.turns r.steps (cvm_at r p n)) (whole_text r p)
   ran held before s over = record {
     past = cvm_at r p n;
@@ -111,7 +111,8 @@ module _ (r : Run) (p : Past) (is : IsPast r p) where
     sectors = refl;
     beyond = s.beyond;
     status = refl;
-    over = over;
+    few = λ e. (over (cvm_at r p n) (is.turns (turns_at r n) (omega arith)) e).few;
+    over = λ e. (over (cvm_at r p n) (is.turns (turns_at r n) (omega arith)) e).over;
     text_is = text_so (has_ended r) (cvm_at r p n).status;
   }
 
@@ -143,7 +144,7 @@ serves words old new session s rows (by_trace t is same files) (inl given) c als
 serves words old new session s rows (by_sample x is same parts) (inl given) c also =
     subst (λ (y : Command). ShelfServes y old new) (one_command words (sample x) c is also) (inl (given, refl))
 
-no_call_failed : (words : List (List ℕ)) (session : Session) (s : ImageSystem) (rows : Rows) (before : List (List ℕ)) (old new : Outside) → IsHonest words session s rows before old new → NoneFailed words old new
+pub no_call_failed : (words : List (List ℕ)) (session : Session) (s : ImageSystem) (rows : Rows) (before : List (List ℕ)) (old new : Outside) → IsHonest words session s rows before old new → NoneFailed words old new
 no_call_failed words session s rows before old new h =
     record { shelf = serves words old new session s rows h.asked h.served.shelf; sink = h.served.sink; disk = h.served.disk }
 

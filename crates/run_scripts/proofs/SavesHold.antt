@@ -26,7 +26,7 @@ use Rattle.run_scripts.proofs.ScriptCalls.{Plain, plain, plain_both, plain_write
 use Rattle.run_scripts.proofs.StatusesCaused.{mid_disk}
 use Rattle.run_scripts.proofs.SavesJoin.{saved_front}
 use Rattle.run_scripts.proofs.ResumeScripts.{got_keeps}
-use Rattle.run_scripts.proofs.RunKeys.{known, ends_are_over, loads_store_the_start, scripts_store_the_sectors, sectors_behind_stay}
+use Rattle.run_scripts.proofs.KeysOfEachRun.{known, ends_are_over, loads_store_the_start, scripts_store_the_sectors, sectors_behind_stay}
 use Rattle.run_scripts.proofs.ScriptsMadeOf.{of_run, of_steps}
 use Rattle.run_scripts.proofs.RowsAlongRuns.{Known}
 use Rattle.run_scripts.specs.Keys.{ScriptLaws}
@@ -194,7 +194,7 @@ saves_hold law files words c s rows before old new status is a f (done _ h) m =
       is_past = t.is_past;
       machine = record { are = w.1; beyond = sectors_behind_stay law.runs words _ (save_session c) s rows before old a (steps_made r) (omega arith) };
       status_is = status_due law.blame words old new status h n ∙ t.status_is;
-      over = ends_are_over law.runs words _ (save_session c) s rows before old a t.past t.is_past;
+      over = ends_are_over law.runs words _ (save_session c) s rows before old a;
       which = w.0;
       others = λ name other. others_stay words (save c) old new status is (done status h) name (λ e. other (sym (same_name c.file name e)));
     }

@@ -15,7 +15,7 @@ use Rattle.boot_turns.proofs.ShownRows.{scripts-same}
 use Rattle.boot_run.specs.Closing.{opening_script, closing_script}
 use Rattle.boot_run.specs.RunScript.{rest_script, run_script, leaving_script, save_script}
 use Rattle.run_scripts.specs.Saving.{AreJoined, ScriptsJoin}
-use Rattle.run_scripts.proofs.RunKeys.{pasts_agree}
+use Rattle.run_scripts.proofs.KeysOfEachRun.{pasts_agree}
 use Rattle.boot_run.proofs.AbstractRuns.{turns_up_to}
 use Rattle.run_scripts.proofs.TurnsRise.{no_later}
 

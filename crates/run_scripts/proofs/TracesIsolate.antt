@@ -18,7 +18,7 @@ use Rattle.boot_run.specs.RunEnds.{SeesUser}
 use Rattle.run_scripts.specs.SessionRuns.{run_of}
 use Rattle.run_scripts.proofs.PromisesByRuns.{TracesIsolate}
 use Rattle.run_scripts.specs.Keys.{LawsOfRuns}
-use Rattle.run_scripts.proofs.RunKeys.{known}
+use Rattle.run_scripts.proofs.KeysOfEachRun.{known}
 use Rattle.boot_run.proofs.AbstractRuns.{not_ended}
 use Rattle.run_scripts.proofs.RowsAlongRuns.{Known}
 

@@ -1,4 +1,5 @@
--- What is promised of each run, by its words and its status: the headline, that enough steps are enough, and the isolation of a traced user.
+-- What is promised of each run, by its words and its status: the headline, that enough steps are enough, the isolation of a traced user, and how the machine
+-- rests.
 use Rattle.std.specs.Prelude.{◌≡◌, ◌≢◌, ◌⊎◌, ◌≤◌, ◌+◌, ℕ, List}
 use Rattle.schedule_file.specs.Rows.{Rows}
 use Rattle.boot_turns.specs.declared.answers.View.TheVariants as view
@@ -13,6 +14,8 @@ use Rattle.run_scripts.specs.Boot.{booted, steps_before, IsBooted, IsHonest, Hea
 use Rattle.run_scripts.specs.Saves.{IsHonestSave}
 use Rattle.run_scripts.specs.Resumes.{IsHonestResume, IsSavedRun, IsBootBehind}
 use Rattle.run_scripts.specs.Isolation.{IsolatedTrace}
+use Rattle.run_scripts.specs.SessionRuns.{run_of}
+use Rattle.run_scripts.specs.Headline.{EndIsOver}
 
 -- THE HEADLINE of each boot and each trace with these words
 abbrev pub Headlines : List (List ℕ) → Status → (old new : Outside) → Type 0
@@ -50,3 +53,14 @@ abbrev pub Isolates : List (List ℕ) → Status → (old new : Outside) → Typ
 Isolates words status old new = (session : Session) (u : ℕ) (s : ImageSystem) (rows : Rows) (sectors : List (List ℕ)) →
     IsHonest words session s rows sectors old new
     → session.view ≡ view.Trace u → (status ≡ Done) ⊎ (status ≡ KernelFault) → IsolatedTrace session u s rows sectors old new status
+
+-- AT REST: where the run of a boot, a trace, a save, or a resume that goes on with a saved run came to its end, the machine rests as the status of the
+-- abstract run's state there says, and stands for that state
+pub record EndsRest (words : List (List ℕ)) (status : Status) (old new : Outside) : Type 0 where
+  pub of_boots : (session : Session) (s : ImageSystem) (rows : Rows) (before : List (List ℕ)) → IsHonest words session s rows before old new → status ≢ Memory
+      → EndIsOver (run_of session s rows old.disk.size before)
+  pub of_saves : (c : Save) (s : ImageSystem) (rows : Rows) (before : List (List ℕ)) → IsHonestSave words c s rows before old new → status ≢ Memory
+      → EndIsOver (run_of (save_session c) s rows old.disk.size before)
+  pub of_resumes : (c : Save) (s : ImageSystem) (rows : Rows) (machine : List ℕ) (left before : List (List ℕ)) (shown : List ℕ)
+      → IsHonestResume words c s rows machine left old new → status ≢ Memory → IsSavedRun c s rows machine left before shown old
+      → EndIsOver (run_of (save_session c) s rows old.disk.size before)

@@ -3,7 +3,7 @@
 use Rattle.std.specs.Prelude.{◌≡◌, ◌≢◌, ◌⊎◌, ℕ, suc, ◌+◌, ◌<◌, ◌≤◌, ⊤, true, false, List, [], ◌∷◌, ◌++◌, length, take, Some}
 use Rattle.std.specs.Io.KnownBytes.{append_known}
 use Rattle.cvm_outside.specs.Told.{retold, IsCutOff}
-use Rattle.cvm_outside.specs.Numbering.{called}
+use Rattle.cvm_outside.specs.Numbering.{called, counted_times}
 use Rattle.schedule_file.specs.Rows.{Rows}
 use Rattle.mips_table.specs.Turns.{IsTurnEnd}
 use Rattle.mips_machine.specs.Steps.{script_of_step}
@@ -55,10 +55,11 @@ closed_by Boot r p = rows_text (cvm_at r p (steps_made r)).rows ++ end_text (cvm
 closed_by (Trace u) r p =
     start_row u (first_user_machine r.system u) ++ journal_rows (p.shown (steps_made r)) ++ end_text (cvm_at r p (steps_made r)).status
 
--- no call of the disk failed up to here, and there are as many as this script makes
+-- no call of the disk failed up to here, and there are as many as this script makes, by both counts
 pub record CalledBy (script : List Call) (old at : Outside) : Type 0 where
   pub faults : at.disk.faults ≡ old.disk.faults
   pub calls : at.disk.calls ≡ called (disk_calls script) (counts old.disk)
+  pub all_calls : at.disk.all_calls ≡ counted_times (disk_calls script) old.disk.all_calls
 
 -- the script up to a step, and up to the row of an entry of that step
 abbrev pub up_to_step : Run → (load : List Call) → Past → (t : ℕ) → List Call

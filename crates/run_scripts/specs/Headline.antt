@@ -2,6 +2,7 @@
 use Rattle.std.specs.Prelude.{◌≡◌, ℕ, ◌+◌, ◌≤◌, true, if◌then◌else◌, List, ◌++◌, length, Some}
 use Rattle.schedule_file.specs.Rows.{Rows}
 use Rattle.cvm_model.specs.Primitives.{user_of}
+use Rattle.cvm_model.specs.Cvm.{Cvm, IsCvm}
 use Rattle.cvm_model.specs.Text.{rows_text, boot_text, trace_text, start_row, open_journal_rows}
 use Rattle.boot_turns.specs.declared.answers.View.{View}
 use Rattle.boot_turns.specs.declared.answers.View.TheVariants.{Boot, Trace}
@@ -11,7 +12,7 @@ use Rattle.run_scripts.specs.declared.session.Session.{Session}
 use Rattle.run_scripts.specs.Command.{Command, IsCommand}
 use Rattle.run_scripts.specs.Plan.{Plan, boots, saves, resumes, PlanComesTo, AllTold}
 use Rattle.cvm_outside.specs.Outside.{Outside}
-use Rattle.boot_turns.specs.Runs.{Run, Past, steps_made, has_ended, cvm_at}
+use Rattle.boot_turns.specs.Runs.{Run, Past, turns_at, steps_made, has_ended, lines_met, cvm_at}
 use Rattle.run_scripts.specs.Boot.{sectors_needed}
 use Rattle.boot_turns.specs.TurnEnds.{first_user_machine, TurnIsOver}
 use Rattle.boot_run.specs.RunEnds.{SeesUser}
@@ -54,9 +55,10 @@ pub record Asked (words : List (List ℕ)) (plan : Plan) (session : Session) (s 
   pub disk : IsDisk old.disk.size before
   pub enough : sectors_needed session s rows ≤ old.disk.size
 
--- a run that came to its end has its turns, or an abstract run that is over; and the machine rests as that says
-abbrev pub EndIsOver : Run → Past → Type 0
-EndIsOver r p = has_ended r ≡ true → TurnIsOver r.around r.system r.first r.turns (steps_made r) (cvm_at r p (steps_made r))
+-- a run that came to its end has its turns, or an abstract run that is over; and the machine rests as that says, at the abstract run's state there
+abbrev pub EndIsOver : Run → Type 0
+EndIsOver r = (c : Cvm) → IsCvm r.system (lines_met r) (turns_at r (steps_made r)) c → has_ended r ≡ true →
+    TurnIsOver r.around r.system r.first r.turns (steps_made r) c
 
 -- WANT OF MEMORY: where memory was wanted nothing was printed, and no sector and no file changed
 pub record Untouched (old new : Outside) : Type 0 where

@@ -15,7 +15,7 @@ use Rattle.run_scripts.specs.Plan.{Plan}
 use Rattle.cvm_outside.specs.Script.{Call}
 use Rattle.cvm_outside.specs.Outside.{Outside}
 use Rattle.cvm_outside.specs.ScriptLaws.{ScriptsBlame, ScriptsTell, ScriptsStore, ScriptsCount}
-use Rattle.boot_turns.specs.Runs.{Run, Past, IsPast}
+use Rattle.boot_turns.specs.Runs.{Run}
 use Rattle.run_scripts.specs.Boot.{booted, sectors_needed, steps_before}
 use Rattle.run_scripts.specs.SessionRuns.{run_of}
 use Rattle.run_scripts.specs.Ends.{session_load}
@@ -41,7 +41,7 @@ RunsStart = (words : List (List ℕ)) (plan : Plan) (session : Session) (s : Ima
 
 -- and its end, where it comes to one, is one of the abstract run
 abbrev pub EndsAreOver : Type 0
-EndsAreOver = OfRuns (λ r load before held. (p : Past) → IsPast r p → EndIsOver r p)
+EndsAreOver = OfRuns (λ r load before held. EndIsOver r)
 
 -- WHAT THE LAWS SAY of runs
 pub record LawsOfRuns : Type 0 where

@@ -1,5 +1,5 @@
 -- WHAT EVERY RUN PROMISES, as laws of how it ends: the headline, completeness and isolation of what asks for a run, what a `yes` of a check means, what a
--- save leaves, and how a resume goes on.
+-- save leaves, how a resume goes on, and how the machine rests.
 use Rattle.std.specs.Prelude.{ℕ, List}
 use Rattle.std.specs.declared.string.String.{String}
 use Rattle.std.specs.declared.alloc.Global.{Global}
@@ -9,7 +9,7 @@ use Rattle.cvm_outside.specs.declared.sectors.Sectors as sectors_of
 use Rattle.cvm_outside.specs.Outside.{Outside}
 use Rattle.run_scripts.specs.declared.exit_status.Status.{Status}
 use Rattle.run_scripts.specs.Command.{word_texts}
-use Rattle.run_scripts.specs.CommandEnds.{Headlines, RunCompletes, Isolates, SavesComplete, ResumesComplete}
+use Rattle.run_scripts.specs.CommandEnds.{Headlines, RunCompletes, Isolates, SavesComplete, ResumesComplete, EndsRest}
 use Rattle.run_scripts.specs.Resumes.{Resumes}
 use Rattle.run_scripts.specs.Saves.{Saves}
 use Rattle.run_scripts.specs.Suffices.{Suffices}
@@ -47,3 +47,6 @@ ResumesAreHeld = Promised Resumes
 
 abbrev pub ResumesAreComplete : Type 0
 ResumesAreComplete = Promised ResumesComplete
+
+abbrev pub MachinesRest : Type 0
+MachinesRest = Promised EndsRest

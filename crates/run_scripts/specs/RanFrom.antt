@@ -1,12 +1,12 @@
 -- How a run from a start ends in which no call fails, what is printed of it and which sectors stand.
-use Rattle.std.specs.Prelude.{◌≡◌, ℕ, true, List}
+use Rattle.std.specs.Prelude.{◌≡◌, ◌≢◌, ◌⊎◌, ◌≤◌, ℕ, true, List}
 use Rattle.mips_table.specs.Device.{Environment}
 use Rattle.mips_table.specs.Machine.{State, run}
 use Rattle.mips_table.specs.Turns.{complete, lines_of_turn, is_end, end_within}
-use Rattle.cvm_model.specs.Cvm.{System, Cvm, IsCvm}
+use Rattle.cvm_model.specs.Cvm.{System, Running, Cvm, IsCvm}
 use Rattle.layer_contract.specs.Starts.{Beyond}
 use Rattle.boot_turns.specs.declared.answers.View.{View}
-use Rattle.boot_turns.specs.TurnEnds.{TurnIsOver, Printed, Whole}
+use Rattle.boot_turns.specs.TurnEnds.{Printed, Whole}
 use Rattle.boot_run.specs.declared.whole.RunEnd.{RunEnd}
 use Rattle.boot_run.specs.declared.whole.RunEnd.TheVariants.{OutOfSteps}
 use Rattle.boot_run.specs.RunCalls.{end_by}
@@ -22,8 +22,8 @@ TextAt x y s v t OutOfSteps text = Printed x y s v t text
 TextAt x y s v t other text = Whole x y s v t text
 
 -- with no failed call, over a disk that had the sectors `old` before the load, of which those from `held` on are none of the run's: sectors, ending
--- and text are those of the machine and of the CVM run at the headline's step; where that is an end, all turns are complete or the CVM run is over, and
--- the machine rests as its status says
+-- and text are those of the machine and of the CVM run at the headline's step; where that is an end, no more turns are complete than were asked for, and
+-- all of these are, or the kernel has halted or faulted. How the machine rests there is a law (`machines_rest`)
 pub record RanFrom (x : Environment) (y : System) (s : State) (held : ℕ) (old now : List (List ℕ)) (v : View) (turns steps : ℕ) (e : RunEnd)
     (text : List ℕ) : Type 0 where
   pub past : Cvm
@@ -31,5 +31,6 @@ pub record RanFrom (x : Environment) (y : System) (s : State) (held : ℕ) (old 
   pub sectors : now ≡ (run x s (end_within x s turns steps)).device.sectors
   pub beyond : Beyond held old now
   pub status : e ≡ ending x s turns steps past
-  pub over : is_end x s turns (end_within x s turns steps) ≡ true → TurnIsOver x y s turns (end_within x s turns steps) past
+  pub few : is_end x s turns (end_within x s turns steps) ≡ true → complete x s (end_within x s turns steps) ≤ turns
+  pub over : is_end x s turns (end_within x s turns steps) ≡ true → (complete x s (end_within x s turns steps) ≡ turns) ⊎ (past.status ≢ Running)
   pub text_is : TextAt x y s v (end_within x s turns steps) e text

@@ -8,7 +8,7 @@ use Rattle.run_scripts.specs.Refusal.{too_long}
 use Rattle.run_scripts.specs.Plan.{Plan, refuses, PlanComesTo}
 use Rattle.cvm_outside.specs.Script.{Call, Got, Stored, Who, Performs}
 use Rattle.cvm_outside.specs.Outside.{Outside, shelf_counts}
-use Rattle.cvm_outside.specs.Numbering.{called}
+use Rattle.cvm_outside.specs.Numbering.{Tally, called, counted_times}
 use Rattle.run_scripts.specs.Ends.{Ends, done, no_file, no_memory, WasDone, PlanAsks, GetsFor, IsNotGot, Wants, answered}
 use Rattle.run_scripts.specs.Served.{files_of, file_put}
 
@@ -87,7 +87,13 @@ abbrev pub GetsComeFirst : Type 0
 GetsComeFirst = (words : List (List ℕ)) (c : Command) (old new : Outside) (status : Status) → IsCommand words c → Ends words old new status →
     GotInOrder c old new status
 
+-- counts after so many more calls, by both of them
+pub record CountedMore (n : ℕ) (before now : Tally) : Type 0 where
+  pub calls : now.calls ≡ called n before
+  pub all_calls : now.all_calls ≡ counted_times n before.all_calls
+
 -- HOW OFTEN THE SHELF IS CALLED where nobody is blamed and no file is too long: once for each file that is named, and once for one that is put
 abbrev pub ShelfIsCalled : Type 0
 ShelfIsCalled = (words : List (List ℕ)) (c : Command) (old new : Outside) (status : Status) → IsCommand words c → (h : WasDone words old new status) →
-    h.plan ≢ refuses too_long → h.blamed ≡ None → new.shelf.calls ≡ called (length (files_of c) + length (puts_in h.script)) (shelf_counts old.shelf)
+    h.plan ≢ refuses too_long → h.blamed ≡ None →
+    CountedMore (length (files_of c) + length (puts_in h.script)) (shelf_counts old.shelf) (shelf_counts new.shelf)

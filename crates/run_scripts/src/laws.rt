@@ -6,7 +6,7 @@ ghost use Rattle.run_scripts.specs.Shapes.{PlansHaveShape, OthersStay, NothingIs
 ghost use Rattle.run_scripts.specs.Saving.{ScriptsJoin, ResumesJoin};
 ghost use Rattle.run_scripts.specs.Checks.{StackOutIsNotMet};
 ghost use Rattle.run_scripts.specs.Faults.{FaultsLeave, SaveFaultsLeave, ResumeFaultsLeave};
-ghost use Rattle.run_scripts.specs.Promises.{HeadlinesHold, RunsAreComplete, TracesAreIsolated, YesIsEnough, SavesAreHeld, SavesAreComplete, ResumesAreHeld, ResumesAreComplete};
+ghost use Rattle.run_scripts.specs.Promises.{HeadlinesHold, RunsAreComplete, TracesAreIsolated, YesIsEnough, SavesAreHeld, SavesAreComplete, ResumesAreHeld, ResumesAreComplete, MachinesRest};
 
 use boot_image::images_are_their_spellings;
 use boot_turns::{
@@ -82,7 +82,7 @@ fn laws_below()
     journal_rows_follow();
 }
 
-/// A law: where a run came to its end its turns are complete or the abstract run is over.
+/// A law: where a run came to its end its turns are complete or the abstract run is over, and the machine rests as the state there says and stands for it.
 pub fn ends_are_over()
     ensures { EndsAreOver }
 {
@@ -298,4 +298,11 @@ pub fn resumes_are_complete()
 {
     laws_below();
     resumable_words_are_answered();
+}
+
+/// A law: where a run with no failed call came to its end the machine rests as the state there says, and stands for it.
+pub fn machines_rest()
+    ensures { MachinesRest }
+{
+    laws_below();
 }

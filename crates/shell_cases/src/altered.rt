@@ -38,6 +38,8 @@ impl Sectors for Altered {
 
     ghost calls = { λ s. s.inner.calls.sound };
 
+    ghost all_calls = { λ s. s.inner.calls.next };
+
     ghost sized = { λ s. told_size s.alteration s.inner.sectors };
 
     fn are_sectors(&self) {

@@ -18,10 +18,10 @@ returns-in_err-bytes-clause-gets g c = λ rest sink disk.
     let p = err_from_is_err_and c.from_residual.result c.from_residual.ensures.1 in
     let e = c.in_err-bytes.ensures in
     rw (p.1, p.2) (one_stopped _ rest (files g.S.Shelf c.args.shelf.now) (files g.S.Shelf c.get.new.self) c.in_err-bytes.field-0.0 sink disk
-    (record { files = e.files; bytes = e.bytes; all = e.all; most = e.most; long = e.long; told_long = e.told_long; count = e.count; called = record { calls = e.called; gives = e.given }; sure = e.sure }))
+    (record { files = e.files; bytes = e.bytes; all = e.all; most = e.most; long = e.long; told_long = e.told_long; count = e.count; called = record { calls = e.called; all_calls = e.all_called; gives = e.given }; sure = e.sure }))
 
 pub returns-clause-gets : goal.returns-clause-gets
 returns-clause-gets g c = λ rest sink disk.
     let e = c.in_ok-bytes.ensures in
     one_got _ (files g.S.Shelf c.args.shelf.now) (files g.S.Shelf c.get.new.self) c.in_ok-bytes.bytes sink disk
-    (record { files = e.files; bytes = e.bytes; all = e.all; most = e.most; long = e.long; told_long = e.told_long; count = e.count; called = record { calls = e.called; gives = e.given }; sure = e.sure })
+    (record { files = e.files; bytes = e.bytes; all = e.all; most = e.most; long = e.long; told_long = e.told_long; count = e.count; called = record { calls = e.called; all_calls = e.all_called; gives = e.given }; sure = e.sure })

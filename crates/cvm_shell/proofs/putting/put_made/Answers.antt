@@ -20,7 +20,7 @@ returns-in-Ok-put g c = λ words d first disk is gets plan.
     let h = subst P c.in-Ok.is (record { gets = gets sink disk; plan = plan }) in
     let e = c.in-Ok-put.ensures in
     put_done words d c.args.name.now c.deref.result.now c.in-Ok.bytes.items (Ok tt) sink disk (told_files g.S.Shelf first) (told_files g.S.Shelf c.args.shelf.now) _ is h.plan c.deref.ensures.value h.gets
-    (record { others = e.others; whole = e.bytes; part = e.part; few = e.few; taken = e.taken; count = e.count; called = record { calls = e.called; gives = e.given } })
+    (record { others = e.others; whole = e.bytes; part = e.part; few = e.few; taken = e.taken; count = e.count; called = record { calls = e.called; all_calls = e.all_called; gives = e.given } })
 
 pub returns : goal.returns
 returns g c = λ words d first disk is gets plan.
@@ -29,4 +29,4 @@ returns g c = λ words d first disk is gets plan.
     let h = subst P c.in-Ok.is (record { gets = gets sink disk; plan = plan }) in
     let e = c.in-Err-put.ensures in
     put_done words d c.args.name.now c.deref.result.now c.in-Ok.bytes.items (Err c.in-Err-put.field-0) sink disk (told_files g.S.Shelf first) (told_files g.S.Shelf c.args.shelf.now) _ is h.plan c.deref.ensures.value h.gets
-    (record { others = e.others; whole = e.bytes; part = e.part; few = e.few; taken = e.taken; count = e.count; called = record { calls = e.called; gives = e.given } })
+    (record { others = e.others; whole = e.bytes; part = e.part; few = e.few; taken = e.taken; count = e.count; called = record { calls = e.called; all_calls = e.all_called; gives = e.given } })

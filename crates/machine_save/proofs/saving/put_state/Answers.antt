@@ -13,7 +13,7 @@ returns-in-Ok g c =
       λ few bits. c.bytes.ensures ∙ c.fill.ensures.file few bits,
       λ disk. goes_on (Stored c.args.place.name.now c.bytes.result.now) (Printed (Some (codes "saved\n")) ∷ []) _ _ _ (of_end c.put_row.result)
           (put_does c.args.place.name.now c.bytes.result.now (output g.O.Sink c.args.out.now) disk (files g.S.Shelf c.args.shelf.now) (files g.S.Shelf c.put.new.self)
-          (record { others = e.others; whole = e.bytes; part = e.part; few = e.few; taken = e.taken; count = e.count; called = record { calls = e.called; gives = e.given } }))
+          (record { others = e.others; whole = e.bytes; part = e.part; few = e.few; taken = e.taken; count = e.count; called = record { calls = e.called; all_calls = e.all_called; gives = e.given } }))
           (c.put_row.ensures.0 (files g.S.Shelf c.put.new.self) disk),
       c.put_row.ensures.1,
     )
@@ -25,6 +25,6 @@ returns g c =
       λ few bits. c.bytes.ensures ∙ c.fill.ensures.file few bits,
       λ disk. breaks (Stored c.args.place.name.now c.bytes.result.now) (Printed (Some (codes "saved\n")) ∷ []) _ _
           (put_fails c.args.place.name.now c.bytes.result.now (output g.O.Sink c.args.out.now) disk (files g.S.Shelf c.args.shelf.now) (files g.S.Shelf c.put.new.self) c.in-Err.field-0
-          (record { others = e.others; whole = e.bytes; part = e.part; few = e.few; taken = e.taken; count = e.count; called = record { calls = e.called; gives = e.given } })),
+          (record { others = e.others; whole = e.bytes; part = e.part; few = e.few; taken = e.taken; count = e.count; called = record { calls = e.called; all_calls = e.all_called; gives = e.given } })),
       λ none. absurd (let z : Some TheShelf ≡ None = none in cc),
     )

@@ -1,4 +1,4 @@
-use Rattle.run_scripts.proofs.RunKeys.{ends_are_over}
+use Rattle.run_scripts.proofs.KeysOfEachRun.{ends_are_over}
 use Rattle.run_scripts.proofs.laws.ends_are_over.Goals as goal
 
 pub returns : goal.returns

@@ -1,4 +1,4 @@
-use Rattle.run_scripts.proofs.FaultLaws.{faults_leave}
+use Rattle.run_scripts.proofs.FaultsLeave.{faults_leave}
 use Rattle.run_scripts.proofs.laws.faults_leave.Goals as goal
 
 pub returns : goal.returns

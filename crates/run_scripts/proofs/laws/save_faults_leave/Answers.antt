@@ -1,4 +1,4 @@
-use Rattle.run_scripts.proofs.FaultLaws.{save_faults_leave}
+use Rattle.run_scripts.proofs.FaultsLeave.{save_faults_leave}
 use Rattle.run_scripts.proofs.laws.save_faults_leave.Goals as goal
 
 pub returns : goal.returns

@@ -19,4 +19,4 @@ returns-clause-words g c =
 
 pub returns-clause-script : goal.returns-clause-script
 returns-clause-script g c shelf sink =
-    read_once c.args.sector shelf sink (drive g.D.Sectors c.args.disk.now) (drive g.D.Sectors c.read.new.self) c.read.result c.requires.sector c.read.ensures.size c.read.ensures.sectors c.read.ensures.count c.read.ensures.called
+    read_once c.args.sector shelf sink (drive g.D.Sectors c.args.disk.now) (drive g.D.Sectors c.read.new.self) c.read.result c.requires.sector c.read.ensures.size c.read.ensures.sectors c.read.ensures.count c.read.ensures.called c.read.ensures.all_called

@@ -44,9 +44,7 @@ module _ (law : LawsOfRuns) where
       }
 
   pub ends_are_over : EndsAreOver
-  ends_are_over words plan session s rows before old a p is e =
-      let r : Run = run_of session s rows old.disk.size before in
-      (known words plan session s rows before old a).machines.ends r.turns r.steps (cvm_at r p (steps_made r)) (is.turns (turns_at r (steps_made r)) (omega arith)) e
+  ends_are_over words plan session s rows before old a = (known words plan session s rows before old a).machines.ends session.turns session.steps
 
   pub sectors_behind_stay : SectorsBehindStay
   sectors_behind_stay words plan session s rows before old a t le =

@@ -4,7 +4,7 @@ use Rattle.std.proofs.Common.{◌≡◌, ◌⊎◌, inl, inr, ℕ, ◌≤◌, Bo
 use Rattle.std.proofs.lemmas.List.{take_all}
 use Rattle.std.specs.Io.KnownBytes.{append_known}
 use Rattle.cvm_outside.specs.Told.{IsCutOff, retold}
-use Rattle.cvm_outside.specs.Numbering.{called}
+use Rattle.cvm_outside.specs.Numbering.{called, counted_times}
 use Rattle.cvm_outside.specs.Outside.{Outside, Output, Drive, counts}
 use Rattle.cvm_outside.specs.Script.{Call, Who, TheSink, TheDisk, TheShelf, Performs, disk_calls, sectors_after}
 use Rattle.cvm_outside.specs.ScriptLaws.{ScriptsBlame, ScriptsCount}
@@ -35,7 +35,7 @@ use Rattle.run_scripts.proofs.ScriptCalls.{plain_load}
 use Rattle.run_scripts.proofs.StatusesCaused.{mid_disk}
 use Rattle.run_scripts.proofs.ResumeScripts.{got_keeps}
 use Rattle.run_scripts.specs.Keys.{ScriptLaws}
-use Rattle.run_scripts.proofs.RunKeys.{known, loads_store_the_start, sectors_behind_stay}
+use Rattle.run_scripts.proofs.KeysOfEachRun.{known, loads_store_the_start, sectors_behind_stay}
 use Rattle.run_scripts.proofs.OneCommand.{one_command}
 use Rattle.run_scripts.proofs.RowsAlongRuns.{Known}
 use Rattle.run_scripts.proofs.NothingElseRefused.{plan_asks}
@@ -95,6 +95,7 @@ called_by blame count old mid disk a at q =
     record {
       faults = (blame a mid at None q TheDisk).same (λ e. cc) ∙ ap (λ (d : Drive). d.faults) disk;
       calls = c.calls ∙ ap (λ (n : ℕ). called n (counts mid.disk)) c.which ∙ ap (λ (d : Drive). called (disk_calls a) (counts d)) disk;
+      all_calls = c.all_calls ∙ ap (λ (n : ℕ). counted_times n mid.disk.all_calls) c.which ∙ ap (λ (d : Drive). counted_times (disk_calls a) d.all_calls) disk;
     }
 
 -- OF A RUN that words ask for, from where its files were got
