@@ -267,7 +267,7 @@ use Rattle.{name}.specs.Tree.{{kernel_tree}}
 use Rattle.{name}.specs.Text.{{text as kernel_text}}
 {user_uses}use Rattle.{name}.specs.Property.{{Always, Runs}}
 use Rattle.{name}.specs.Boots.{{most_turns, most_dispatches, SystemBoots}}
-use Rattle.{name}.proofs.Property.{{invariant}}
+use Rattle.{name}.proofs.EveryStepKeepsIt.{{invariant}}
 
 -- What is printed, letter by letter: `stopped` of kernel_boots/proofs/SystemsBoot says that the invariant holds of the state that has halted; of what `halts` gives,
 -- `text_is` is the report of that state, which computes where its machines are known.
@@ -406,10 +406,10 @@ def made(name, users, kernel, shaped, touches):
     files = {
         'src/lib.rt': lib,
         'specs/Lib.antt': ''.join('pub mod %s\n' % it for it in specs),
-        'proofs/Lib.antt': 'mod Property\nmod Boots\nmod TextIsTree\n' + ('mod ProgramTexts\n' if numbers else ''),
+        'proofs/Lib.antt': 'mod EveryStepKeepsIt\nmod Boots\nmod TextIsTree\n' + ('mod ProgramTexts\n' if numbers else ''),
         'specs/Property.antt': PROPERTY.format(**dict(word, program_uses=word['of_property'])),
         'specs/Boots.antt': BOOTS_SPEC.format(**dict(word, boot_uses=word['of_boots'])),
-        'proofs/Property.antt': PROOF.format(**word),
+        'proofs/EveryStepKeepsIt.antt': PROOF.format(**word),
         'proofs/Boots.antt': BOOTS.format(**dict(word, boot_uses=word['of_boots_proof'])),
         'proofs/system_boots/Answers.antt': ANSWER_BOOTS.format(**word),
     }

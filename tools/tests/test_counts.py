@@ -1,4 +1,6 @@
-"""The numbers of cases that docs/promises/tests.md tells, counted in the data and in what the programs of cases print."""
+"""The numbers of cases that docs/promises/tests.md tells, counted in the data and in what the programs of cases print; and the lines that README and DECISIONS tell."""
+import functools
+import glob
 import importlib.machinery
 import importlib.util
 import os
@@ -124,6 +126,85 @@ class Believed(unittest.TestCase):
         self.assertIn((ends.path, ends.own['as_outside']), headline)
         lines = sum(self.believed.lines_of(specs.files[path].blocks[block]) for path, block in everything)
         self.assertIn('| everything | %s |' % format(lines, ','), self.believed.of_totals(specs))
+
+
+FIVE = ('boot_report', 'boot_turns', 'boot_run', 'machine_save', 'cvm_shell')
+
+
+def texts_of(folder, *crates):
+    """The files of one folder of these crates, or of all."""
+    for path in (path for crate in crates or ('*',) for path in glob.glob(os.path.join(pages.TOP, 'crates', crate, folder, '**', '*.*t*'), recursive=True)):
+        if path.endswith(('.rt', '.antt')):
+            with open(path, encoding='utf-8') as file:
+                yield file.read()
+
+
+def lines_of(folder, *crates):
+    return sum(text.count('\n') for text in texts_of(folder, *crates))
+
+
+def clauses_of(*crates):
+    return sum(len(re.findall(r'^ *(?:ensures|requires)\b', text, re.M)) for text in texts_of('src', *crates))
+
+
+def numbers(found):
+    return [int(number.replace(',', '')) for number in found.groups()]
+
+
+class Lines(unittest.TestCase):
+    """Numbers of lines on README and DECISIONS: those of BELIEVED are its own, and the others are within 3% of what is counted."""
+
+    def near(self, said, counted):
+        for a, b in zip(said, counted, strict=True):
+            self.assertLessEqual(abs(a - b), 0.03 * b, '%d is said, and there are %d' % (a, b))
+
+    def test_the_first_page(self):
+        page = ' '.join(stored('..', 'README.md').split())
+        said = numbers(re.search(r'Of ([\d,]+) lines of code with contracts, ([\d,]+) of definitions and ([\d,]+) of proofs some ([\d,]+) are what has to be believed', page))
+        everything = re.search(r'^\| everything \| ([\d,]+) \|', pages.page('listings/BELIEVED.md'), re.M)
+        self.near(said, [lines_of('src'), lines_of('specs'), lines_of('proofs'), *numbers(everything)])
+
+    def test_lines_to_believe(self):
+        page, decisions = pages.page('listings/BELIEVED.md'), ' '.join(pages.page('DECISIONS.md').split())
+        said = re.search(r'skeleton of headline, completeness and isolation has ([\d,]+) \(aim.*? that of `script` alone ([\d,]+) \(aim .*? that of all clauses of `run` ([\d,]+)\. '
+                         r'All that these reach is ([\d,]+) \(aim [\d,]+\), ([\d,]+) without the last tier; with the laws it is ([\d,]+)\.', decisions)
+        headline = numbers(re.search(r'^\| the headline, completeness and isolation \| [\d,]+ \| [\d,]+ \| ([\d,]+) \|$', page, re.M))
+        clauses = numbers(re.search(r'^The clauses of `run` alone: ([\d,]+) lines, ([\d,]+) without the last tier; the skeleton of `script` alone: ([\d,]+)\.$', page, re.M))
+        skeleton = numbers(re.search(r'^\*\*The skeleton: .*\*\* \(([\d,]+) lines\)$', page, re.M))
+        everything = numbers(re.search(r'^\| everything \| ([\d,]+) \|', page, re.M))
+        self.assertEqual(numbers(said), [*headline, clauses[2], *skeleton, *clauses[:2], *everything])
+
+    def test_crates_that_scripts_serve(self):
+        decisions = ' '.join(pages.page('DECISIONS.md').split())
+        said = re.search(r'\(%s\) have ([\d,]+) lines of specs and proofs, ([\d,]+) without blank ones \(aim [\d,]+\), and (\d+) clauses, which are `requires` and `ensures` .*?'
+                         r'With run_scripts \(([\d,]+) lines, (\d+) clauses\) and cvm_outside \(([\d,]+) lines, (\d+) clauses\) they have ([\d,]+) lines' % ', '.join(FIVE), decisions)
+        five, scripts, outside = (lines_of('specs', *crates) + lines_of('proofs', *crates) for crates in (FIVE, ('run_scripts',), ('cvm_outside',)))
+        blank = sum(line == '' for folder in ('specs', 'proofs') for text in texts_of(folder, *FIVE) for line in text.split('\n')[:-1])
+        self.near(numbers(said), [five, five - blank, clauses_of(*FIVE), scripts, clauses_of('run_scripts'), outside, clauses_of('cvm_outside'), five + scripts + outside])
+
+
+class Chain(unittest.TestCase):
+    """How long the chain of crates is, as DECISIONS tells it, and that the one which FIGURES names is one."""
+
+    def setUp(self):
+        rows = re.findall(r'^(\w+):(.*)$', stored('..', 'crates.txt'), re.M)
+        names = {name for name, _ in rows}
+        self.below = {name: [it for it in below.split('#')[0].split() if it in names] for name, below in rows}
+
+    def length(self, name):
+        return 1 + max(map(self.length, self.below[name]), default=0)
+
+    def test_its_length(self):
+        said = re.search(r'It has (\w+) crates to the program\. .* It has (\w+) to a whole system', ' '.join(pages.page('DECISIONS.md').split()))
+        words = ['nine', 'ten', 'eleven', 'twelve']
+        self.length = functools.lru_cache(None)(self.length)
+        self.assertEqual([9 + words.index(word) for word in said.groups()], [self.length('cvm'), self.length('mailing_boots')])
+
+    def test_the_longest_one(self):
+        text = re.search(r'The longest chain goes from mips_table and (.*?), \d+ minutes', ' '.join(pages.page('FIGURES.md').split())).group(1)
+        names = re.findall(r'\w+', re.sub(r'\b(?:by|and|to)\b', '', text))
+        for below, name in zip(names, names[1:]):
+            self.assertIn(below, self.below[name])
 
 
 class Edits(unittest.TestCase):

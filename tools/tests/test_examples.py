@@ -1,4 +1,5 @@
-"""Examples that stand as data of programs of the gate in another form than as files, which examples/check compares."""
+"""Examples that stand as data of programs of the gate in another form than as files, which examples/check compares; and the rows that pages show of them."""
+import glob
 import os
 import re
 import unittest
@@ -54,3 +55,49 @@ class Proved(unittest.TestCase):
             over = printed.index('halted')
             self.assertEqual(printed[over + 1:over + 1 + len(report)], report)
             self.assertLessEqual(over, most + sum(row.startswith('line ') for row in stored('examples', example, 'schedule').split('\n')))
+
+
+# A row of a turn, of a report or of a trace in a block or in a cell of a table; `..` stands for what is left out, and the end may be.
+SHOWN = re.compile(r'(?:^    |`)((?:turn \d+ |global \w+ |con [0-9a-f]{8}|user \d+ pages |reg \d+ |mem [0-9a-f]{8} |set \d+ [0-9a-f]{8})[^`\n]*)(?:`|$)', re.MULTILINE)
+
+
+def shown(page):
+    """The rows that a page shows, and of a sentence on some turns these turns."""
+    yield from (found.rstrip() for line in page.split('\n') if line.startswith(('|', '    ')) for found in SHOWN.findall(line))
+    for first, last in re.findall(r'\bthe turns (\d+) (?:and|to) (\d+)', page):
+        yield from ('turn %s ..' % turn for turn in (first, last))
+
+
+def is_among(row, rows):
+    """Whether a row, of which something may be left out, is one of these or begins one."""
+    wanted = re.compile(' .*'.join(re.escape(part) for part in row.replace(' ..', '\0').split('\0')) + r'(?![^ ])')
+    return any(wanted.match(it) for it in rows)
+
+
+class Shown(unittest.TestCase):
+    """The rows that README and the pages of the examples show are stored: in `printed`, `saved`, `resumed` or a trace."""
+
+    def stored_rows(self, example):
+        rows = set()
+        for path in glob.glob(os.path.join(pages.TOP, 'examples', example, '*')):
+            if re.fullmatch(r'printed|saved|resumed|trace\d+', os.path.basename(path)):
+                with open(path, encoding='utf-8') as file:
+                    rows |= set(file.read().split('\n'))
+        return rows
+
+    def test_rows_that_are_shown_are_stored(self):
+        for row, found in (('turn 9 ..', True), ('turn 9 cause 6 .. next 1', True), ('turn 9 cause 6 data 0', False), ('turn 9 cause 6 .. next 10', False), ('turn 90 ..', False)):
+            self.assertEqual(is_among(row, ['turn 9 cause 6 data 0000004c user 1 next 1']), found, row)
+        count = 0
+        for path in sorted(glob.glob(os.path.join(pages.TOP, 'examples', '*', '*.md'))):
+            rows = self.stored_rows(os.path.basename(os.path.dirname(path)))
+            for row in shown(stored(path)):
+                self.assertTrue(is_among(row, rows), '%s: %s' % (path, row))
+                count += 1
+        self.assertGreater(count, 80)
+
+    def test_rows_of_the_first_page_are_stored(self):
+        rows = list(shown(stored('README.md')))
+        self.assertEqual(len(rows), 3)
+        for row in rows:
+            self.assertTrue(is_among(row, self.stored_rows('round_robin')), row)

@@ -89,6 +89,63 @@ class WordsTable(unittest.TestCase):
             self.assertEqual([name for name in laws if name not in named], [], word)
 
 
+class NamedFiles(unittest.TestCase):
+    """Tables of VERIFYING and COMPILER that say in which file a lemma or a proof stands."""
+
+    def rows(self, page, head):
+        lines = stored('docs', page).split('\n')
+        at = next(number for number, line in enumerate(lines) if pages.cells(line) == head) + 2
+        return [pages.cells(line) for line in lines[at:at + next(n for n, line in enumerate(lines[at:]) if not line.startswith('|'))]]
+
+    def test_lemmas_stand_in_the_files_that_are_named(self):
+        rows = self.rows('VERIFYING.md', ['Step', 'Lemma', 'In'])
+        self.assertGreater(len(rows), 8)
+        for _, lemmas, last in rows:
+            # a lemma that stands elsewhere has the file in brackets behind it and those before it
+            *others, rest = re.split(r'(?<=[a-z`]) \((\w+)\)', lemmas)
+            for text, name in [*zip(others[::2], others[1::2]), (rest, last)]:
+                stands = stored('crates', 'kernel_theorems', 'proofs', name + '.antt')
+                for lemma in re.findall(r'`(\w+)(?:[^`]*)`', re.sub(r'`\w+` of specs/\w+', '', text.split(', with ')[0].split(': all')[0])):
+                    self.assertRegex(stands, r'\bpub %s\b' % lemma, name)
+
+    def test_proofs_of_the_compiler_stand_where_they_are_said_to(self):
+        rows = self.rows('COMPILER.md', ['What', 'By which function', 'Stated in `specs/` of its crate', 'Its proof, in `proofs/`'])
+        self.assertGreater(len(rows), 5)
+        for _, by, specs, proofs in rows:
+            crates = [os.path.join(pages.TOP, 'crates', name) for name in re.findall(r'\((\w+)[,)]', by)]
+            self.assertTrue(crates, by)
+            for folder, names in (('specs', specs), ('proofs', proofs)):
+                for name in names.split(', '):
+                    found = [crate for crate in crates if glob.glob(os.path.join(crate, folder, name + ('.antt' if folder == 'specs' else '')))]
+                    self.assertTrue(found, '%s: %s/%s' % (by, folder, name))
+
+    def test_files_of_proofs_that_pages_name_are_there(self):
+        """A file that a page names with its folder, as proofs/NAME or specs/NAME, stands in some crate."""
+        there = {kind: {os.path.basename(path).split('.')[0] for path in glob.glob(os.path.join(pages.TOP, 'crates', '*', kind, '**', '*'), recursive=True)} for kind in ('proofs', 'specs')}
+        for path in every_page():
+            for kind, name in re.findall(r'\b(proofs|specs)/([A-Z]\w+)\b(?!/)', stored(path)):
+                self.assertTrue(name in there[kind] or name in ('MODULE', 'FILE', 'NAME'), '%s: %s/%s' % (path, kind, name))
+
+
+class Crates(unittest.TestCase):
+    def test_each_crate_has_a_row_in_architecture(self):
+        named = set(re.findall(r'^(\w+):', stored('crates.txt'), re.MULTILINE))
+        lines = stored('docs', 'ARCHITECTURE.md').split('## Crates')[1].split('\n## ')[0].split('\n')
+        rows = [pages.cells(line) for line in lines if not line.startswith('| *')]
+        listed = [name for row in rows if len(row) == 2 for name in row[0].split(', ') if re.fullmatch(r'[a-z]\w+', name)]
+        self.assertEqual((set(listed) - named, named - set(listed)), (set(), set()))
+        self.assertEqual(len(listed), len(set(listed)))
+
+
+    def test_each_crate_has_its_promises(self):
+        """A section of its own, or where a storey has one for all a name on that storey's page."""
+        promised = {path: stored(path) for path in glob.glob(os.path.join(pages.TOP, 'docs', 'promises', '*.md'))}
+        sections = {name for text in promised.values() for head in re.findall(r'^## ([\w, ]+)$', text, re.MULTILINE) for name in head.split(', ')}
+        for name in re.findall(r'^(\w+):', stored('crates.txt'), re.MULTILINE):
+            told = name in sections or any(re.search(r'\b%s\b' % name, text) for path, text in promised.items() if os.path.basename(path) in ('theorems.md', 'tests.md'))
+            self.assertTrue(told, '%s has no section in docs/promises' % name)
+
+
 class CitedLemmas(unittest.TestCase):
     """The table of CONTRIBUTING of lemmas that proofs of other crates cite, beside the imports of the proofs."""
 

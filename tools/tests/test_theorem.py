@@ -54,7 +54,7 @@ class Theorem(unittest.TestCase):
         with mock.patch.object(theorem, 'TOP', self.room), mock.patch('sys.stdout', io.StringIO()) as out:
             self.assertEqual(theorem.main([self.kernel(KERNEL), 'mine']), 0)
         self.assertTrue(out.getvalue().startswith('mine: '))
-        with open(os.path.join(self.room, 'crates', 'mine', 'proofs', 'Property.antt'), encoding='utf-8') as file:
+        with open(os.path.join(self.room, 'crates', 'mine', 'proofs', 'EveryStepKeepsIt.antt'), encoding='utf-8') as file:
             proof = file.read()
         self.assertIn('trapped : (k : ℕ) (cause : Cause) (edata : ℕ) (past : List Dispatch) (before at : Core) → IsTrapOf before cause edata at', proof)
         self.assertNotIn('{{', proof)
@@ -82,11 +82,11 @@ class Theorem(unittest.TestCase):
     def test_the_shape_of_machines_is_an_option(self):
         plain, _ = self.written(self.kernel(KERNEL), 'plain')
         shaped, _ = self.written('--shaped', self.kernel(KERNEL), 'shaped')
-        self.assertIn('(HasUsers y) Between', plain['proofs/Property.antt'])
-        self.assertIn('IsInvariant y 300 (Shaped y) Between', shaped['proofs/Property.antt'])
-        self.assertIn('laws.shaped y kernel_tree r.meaning_is r.fit', shaped['proofs/Property.antt'])
+        self.assertIn('(HasUsers y) Between', plain['proofs/EveryStepKeepsIt.antt'])
+        self.assertIn('IsInvariant y 300 (Shaped y) Between', shaped['proofs/EveryStepKeepsIt.antt'])
+        self.assertIn('laws.shaped y kernel_tree r.meaning_is r.fit', shaped['proofs/EveryStepKeepsIt.antt'])
         self.assertIn('  pub fit : HasRoom y', shaped['specs/Property.antt'])
-        self.assertNotIn('HasUsers', shaped['proofs/Property.antt'])
+        self.assertNotIn('HasUsers', shaped['proofs/EveryStepKeepsIt.antt'])
 
     def test_texts_of_any_bytes(self):
         made, _ = self.written(self.kernel(KERNEL.replace('  turn', '\tturn').replace('int turn;', 'int turn; // a "word" \\ there') + '// the end'), 'bytes')
@@ -114,7 +114,7 @@ class Theorem(unittest.TestCase):
         self.assertIn('user_1 = 0x3405000a ∷ 0x24840001 ∷ 0x1485fffe ∷ 0x0000000c ∷ []', made['specs/Users.antt'])
         self.assertIn('y.boot.users ≡ user_1 ∷ user_2 ∷ []', made['specs/Property.antt'])
         self.assertIn('turns_are : k ≡ 1 + steps + traps + lines_taken past', made['specs/Property.antt'])
-        self.assertEqual(made['proofs/Property.antt'].count('rw has_room ?'), 3)
+        self.assertEqual(made['proofs/EveryStepKeepsIt.antt'].count('rw has_room ?'), 3)
         self.assertEqual(made['proofs/Boots.antt'].count(' in ?;'), 2)
         for name, text in made.items():
             self.assertNotIn('{{', text, name)
@@ -127,7 +127,7 @@ class Theorem(unittest.TestCase):
         self.assertIn('IsProgram unit_1 → IsUnitAs User text_1 unit_1', made['specs/Boots.antt'])
         self.assertIn('IsTextAs User', made['src/lib.rt'])
         self.assertIn('loop z main_test1 main_turn1', made['specs/Program1.antt'])
-        self.assertIn('(Shaped y)', made['proofs/Property.antt'])
+        self.assertIn('(Shaped y)', made['proofs/EveryStepKeepsIt.antt'])
 
     def edited(self, made):
         """The files of a crate behind its one edit, as the gate applies it: what is old stands once in its file."""

@@ -25,7 +25,7 @@ use Rattle.alternating.specs.Text.{text as kernel_text}
 use Rattle.alternating.specs.Users.{user_1, user_2}
 use Rattle.alternating.specs.Property.{data_of, logged_numbers, half, leg, steps_up_to, machines, status_behind, Alternating, RunsAlternating}
 use Rattle.alternating.specs.Boots.{report_lines, AlternatingShown, AlternatingBoots}
-use Rattle.alternating.proofs.Property.{still_few, always}
+use Rattle.alternating.proofs.EveryStepKeepsIt.{still_few, always}
 use Rattle.alternating.proofs.ReportComputes.{reported}
 
 -- a state that is running is behind 16 turns at most, but for those of lines

@@ -1,4 +1,4 @@
-mod Property
+mod EveryStepKeepsIt
 mod UsersBring
 mod AlternatingBoots
 mod ReportComputes

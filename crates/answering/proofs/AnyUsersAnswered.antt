@@ -26,7 +26,7 @@ use Rattle.answering.specs.Text.{text as kernel_text}
 use Rattle.kernel_theorems.specs.UserRuns.{AsksAndEnds}
 use Rattle.answering.specs.Property.{RunsAnswering, data_of, Phase, FirstAsks, FirstEnds, SecondAsks, SecondEnds, Over, traps_of, total_of, status_of_phase, most_of, gone_by, first_at, second_at, IsAnswering, Answering}
 use Rattle.answering.specs.Boots.{report_of, ended_by_trap, AnswersShown, AnyUsersAnswered}
-use Rattle.answering.proofs.Property.{invariant}
+use Rattle.answering.proofs.EveryStepKeepsIt.{invariant}
 
 abbrev runs : (one two : List ℕ) (a b c d v w : ℕ) → AsksAndEnds (first_flat one) a b v v → AsksAndEnds (first_flat two) c d w (v + w) → v + w < 2 ^ 31
     → (y : System) → y.boot.meaning ≡ kernel_meaning kernel_tree y.boot.params → y.boot.users ≡ one ∷ two ∷ [] → 9 ≤ y.boot.params.stack → RunsAnswering y a b c d v w

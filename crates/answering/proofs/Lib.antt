@@ -1,4 +1,4 @@
-mod Property
+mod EveryStepKeepsIt
 mod TextIsTree
 mod AnyUsersAnswered
 mod AnyProgramsAnswered

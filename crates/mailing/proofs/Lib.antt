@@ -1,5 +1,5 @@
 mod TextIsTree
 mod DispatchesComputed
 mod UserFollows
-mod Property
+mod EveryStepKeepsIt
 mod MailEnds

@@ -1,4 +1,4 @@
-mod Property
+mod EveryStepKeepsIt
 mod UsersCall
 mod SummingBoots
 mod TextIsTree

@@ -28,7 +28,7 @@ use Rattle.kernel_theorems.specs.UserRuns.{after, CallsAfter}
 use Rattle.summing.specs.Property.{RunsSumming, data_of, Phase, Nobody, FirstOnly, SecondOnly, Everybody, status_of_phase, phase_calls, first_called, second_called, total_of, done_of, machine_of, IsSum, Sums}
 use Rattle.summing.specs.Users.{user_one, user_two, UsersCall}
 use Rattle.summing.specs.Boots.{report_of, last_report, SumShown, AnyUsersSum, NamedSumShown, SummingBoots}
-use Rattle.summing.proofs.Property.{invariant}
+use Rattle.summing.proofs.EveryStepKeepsIt.{invariant}
 use Rattle.summing.proofs.ReportComputes.{reports}
 
 abbrev runs : (one two : List ℕ) (m n v w : ℕ) → CallsAfter (first_flat one) m v → CallsAfter (first_flat two) n w → v + w < 2 ^ 31

@@ -1,4 +1,4 @@
-use Rattle.alternating.proofs.Property.{users_alternate}
+use Rattle.alternating.proofs.EveryStepKeepsIt.{users_alternate}
 use Rattle.alternating.proofs.users_alternate.Goals as goal
 
 pub returns : goal.returns

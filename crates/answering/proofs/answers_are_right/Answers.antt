@@ -1,4 +1,4 @@
-use Rattle.answering.proofs.Property.{answers_are_right}
+use Rattle.answering.proofs.EveryStepKeepsIt.{answers_are_right}
 use Rattle.answering.proofs.answers_are_right.Goals as goal
 
 pub returns : goal.returns

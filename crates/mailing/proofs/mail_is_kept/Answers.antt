@@ -1,4 +1,4 @@
-use Rattle.mailing.proofs.Property.{mail_is_kept}
+use Rattle.mailing.proofs.EveryStepKeepsIt.{mail_is_kept}
 use Rattle.mailing.proofs.mail_is_kept.Goals as goal
 
 pub returns : goal.returns

@@ -1,4 +1,4 @@
-use Rattle.mailing.proofs.Property.{mail_is_printed}
+use Rattle.mailing.proofs.EveryStepKeepsIt.{mail_is_printed}
 use Rattle.mailing.proofs.mail_is_printed.Goals as goal
 
 pub returns : goal.returns

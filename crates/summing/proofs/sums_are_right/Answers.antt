@@ -1,4 +1,4 @@
-use Rattle.summing.proofs.Property.{sums_are_right}
+use Rattle.summing.proofs.EveryStepKeepsIt.{sums_are_right}
 use Rattle.summing.proofs.sums_are_right.Goals as goal
 
 pub returns : goal.returns
