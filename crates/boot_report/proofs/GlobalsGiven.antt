@@ -20,7 +20,7 @@ use Rattle.c0_meaning.specs.Value as value
 use Rattle.c0_meaning.specs.Value.{Region, Location, Value, int, bool, null, at, group, Values, empty, part}
 use Rattle.c0_meaning.specs.TypedState.{StoreTyping, store_typing, types_of, PointsTo, Fits, AllFit, AreParts}
 use Rattle.c0_meaning.specs.Unit.{IsWellFormed}
-use Rattle.c0_meaning.proofs.OpenTy.{well_formed_loose}
+use Rattle.c0_meaning.proofs.OpenedTypesHaveWords.{well_formed_loose}
 use Rattle.layer_map.specs.Map.{Map, globals_at}
 use Rattle.cvm_model.specs.Kernel.{part_offset, flat, flats, parts_of_value}
 use Rattle.cvm_model.specs.Stands.{region_at, address_of, HoldsWords}

@@ -1,6 +1,6 @@
 pub mod TextsInTurn
-pub mod MemoryLemmas
-pub mod UserLemmas
+pub mod PagesByLines
+pub mod UserScripts
 pub mod ReportScripts
 pub mod UsersTell
 pub mod GlobalRows

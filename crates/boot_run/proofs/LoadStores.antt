@@ -19,7 +19,7 @@ use Rattle.boot_run.specs.Loading.{words_of_page}
 use Rattle.boot_run.specs.LoadedPages.{disk_pages, first_pages, rom_pages, user_pages}
 use Rattle.boot_run.specs.LoadScript.{load_script, page_write_script}
 use Rattle.boot_run.specs.RunCalls.{LoadCalls}
-use Rattle.boot_run.proofs.PageLemmas.{page_or, pages_written, with_page, written_is}
+use Rattle.boot_run.proofs.PagesWritten.{page_or, pages_written, with_page, written_is}
 use Rattle.boot_run.proofs.UserPages.{dead_past}
 
 -- SCRIPTS one after another

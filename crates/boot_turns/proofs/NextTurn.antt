@@ -15,7 +15,7 @@ use Rattle.boot_turns.specs.Ahead.{TurnAhead}
 use Rattle.boot_turns.specs.Completes.{note, ShownAs, Progress, Completed}
 use Rattle.boot_turns.proofs.MasksAndTimes.{both_right, user_rests, off_rests}
 use Rattle.boot_turns.proofs.LinesOfTurns.{turn_more, turn_grows, completes_at}
-use Rattle.boot_turns.proofs.OneTurn.{on_back, Given, Turns, Waits, begin_turn, turn_ahead}
+use Rattle.boot_turns.proofs.TurnGoesOn.{on_back, Given, Turns, Waits, begin_turn, turn_ahead}
 use Rattle.boot_turns.proofs.WholeRuns.{forward}
 use Rattle.boot_turns.specs.RunMachines.{TurnFound, TurnGoesOn, TurnShows}
 

@@ -12,7 +12,7 @@ use Rattle.layer_map.specs.Map.{Map}
 use Rattle.layer_contract.specs.declared.registers.TheConstants.{ANSWER}
 use Rattle.cvm_model.specs.Text.{journal_rows_after}
 use Rattle.boot_report.specs.Resident.{page_of_word, word_reads}
-use Rattle.boot_report.proofs.MemoryLemmas.{reads_quiet}
+use Rattle.boot_report.proofs.PagesByLines.{reads_quiet}
 use Rattle.boot_turns.specs.declared.answers.RunFault.{RunFault}
 use Rattle.boot_turns.specs.declared.primitives.TheConstants.{VM_COPY}
 use Rattle.boot_turns.specs.declared.tracer.Entered.{Entered}

@@ -32,7 +32,7 @@ use Rattle.boot_turns.proofs.EntryReached.{entered_none, entered_user, entered_o
 use Rattle.boot_turns.proofs.LinesOfTurns.{turn_same, turn_more, still, completes}
 use Rattle.boot_turns.proofs.NoTurnBegins.{later, quietly}
 use Rattle.boot_turns.proofs.MoreUnits.{one_cvm, cvm_more, cvm_next}
-use Rattle.boot_turns.proofs.OneTurn.{on_back, Given, Beginning, BegunAs, same_data}
+use Rattle.boot_turns.proofs.TurnGoesOn.{on_back, Given, Beginning, BegunAs, same_data}
 use Rattle.boot_turns.proofs.WholeRuns.{OffOn, off_on, ended_off, forward, Going, Covered, covered, defined}
 use Rattle.boot_turns.proofs.NextTurn.{stood_rests}
 use Rattle.boot_turns.proofs.CallUnderWay.{stays_quiet, next_none, under_way_later, ended_later, ended_grows, note_back, noted_back, noted_none, noted_later}

@@ -4,7 +4,7 @@ use Rattle.c0_meaning.specs.State.{C0State}
 use Rattle.layer_contract.specs.Starts.{StartsGoOn}
 use Rattle.layer_contract.specs.Users.{UserStepsLinked}
 use Rattle.boot_turns.specs.Entries.{TracesGrow}
-use Rattle.boot_turns.proofs.OneTurn.{given}
+use Rattle.boot_turns.proofs.TurnGoesOn.{given}
 use Rattle.boot_turns.proofs.ShownGrows.{trace_grows}
 
 pub traces_grow : StartsGoOn → UserStepsLinked → (Typed : C0State → Type 0) → TracesGrow Typed

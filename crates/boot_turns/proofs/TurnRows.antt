@@ -13,7 +13,7 @@ use Rattle.cvm_model.specs.Cvm.{System, Running, Cvm, IsCvm, Begin, Steps, Traps
 use Rattle.mips_table.specs.Machine.{State}
 use Rattle.boot_turns.specs.RunMachines.{RowAdded, RowsGrow, TurnRows, UserStays}
 use Rattle.boot_turns.proofs.MoreUnits.{one_cvm}
-use Rattle.boot_turns.proofs.OneTurn.{Given}
+use Rattle.boot_turns.proofs.TurnGoesOn.{Given}
 
 none_some : (p : Cvm) → None ≡ Some p → ⊥
 none_some p e = cc

@@ -15,7 +15,7 @@ use Rattle.boot_report.specs.Resident.{page_of_word, word_reads, word_told}
 use Rattle.boot_report.specs.Stand.{WordStands}
 use Rattle.boot_report.specs.Texts.{EntriesFit}
 use Rattle.boot_report.specs.Told.{user_word}
-use Rattle.boot_report.proofs.MemoryLemmas.{reads_quiet}
+use Rattle.boot_report.proofs.PagesByLines.{reads_quiet}
 use Rattle.boot_report.proofs.ReportScripts.{shown_is}
 
 word_inside : (m : Map) (u k : ℕ) → WordStands m u k → page_of_word m u k < m.users * m.params.pages

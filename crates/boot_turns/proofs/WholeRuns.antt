@@ -19,7 +19,7 @@ use Rattle.boot_turns.proofs.MasksAndTimes.{off_stays, off_rests, off_begins, of
 use Rattle.boot_turns.proofs.LinesOfTurns.{turn_same, turn_more, turn_grows, completes, faults_grow, faults_stay}
 use Rattle.boot_turns.proofs.TornSectors.{torn_past}
 use Rattle.boot_turns.proofs.MoreUnits.{one_cvm, turn_more_units}
-use Rattle.boot_turns.proofs.OneTurn.{Given, Beginning, Keeps, Turns, Waits, turn_ahead, on_back}
+use Rattle.boot_turns.proofs.TurnGoesOn.{Given, Beginning, Keeps, Turns, Waits, turn_ahead, on_back}
 
 -- after power off nothing changes
 pub record OffOn (x : Environment) (s : State) (k v u : ℕ) : Type 0 where

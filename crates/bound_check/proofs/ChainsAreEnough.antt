@@ -17,7 +17,7 @@ use Rattle.bound_check.specs.Calls.{callee, called_in, called_among, called_by, 
 use Rattle.bound_check.specs.Chains.{IsLongest, IsLeastLoop, LongestIsEnough}
 use Rattle.bound_check.specs.Reading.{IsBest, IsGreedy, BeginsWith, IsRoundTrip}
 use Rattle.bound_check.specs.Marks.{mark_of, IsToldOf}
-use Rattle.c0_struct_sizes.proofs.GraphLemmas.{in_left, in_right}
+use Rattle.c0_struct_sizes.proofs.WaysThroughGraphs.{in_left, in_right}
 use Rattle.bound_check.proofs.MarksTell.{path_weight, no_loop, all_loop}
 use Rattle.bound_check.proofs.LoopingPaths.{path_from, least_loop}
 

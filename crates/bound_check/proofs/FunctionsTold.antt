@@ -11,7 +11,7 @@ use Rattle.bound_check.specs.declared.marks.Mark.TheVariants.{Unseen, Ends, Loop
 use Rattle.c0_struct_sizes.specs.Graph.{IsIn, Leads, by_edge, by_way, edges_in, IsOrder}
 use Rattle.bound_check.specs.Calls.{all_called, called_by, called_from, callees}
 use Rattle.bound_check.specs.Marks.{mark_of, told_words, most, tells_no_loop, all_end, mark_by, AreTold, IsGraph, IsKnown, IsToldOf, MAX_FRAME}
-use Rattle.c0_struct_sizes.proofs.GraphLemmas.{seen_below, equal, in_at, in_parts, PlaceOf, place_of, leads_on}
+use Rattle.c0_struct_sizes.proofs.WaysThroughGraphs.{seen_below, equal, in_at, in_parts, PlaceOf, place_of, leads_on}
 
 -- what is told of these numbers stays where their marks stay
 most_kept : (old new : List Mark) (ws : List ℕ) → ((w : ℕ) → IsIn ws w → mark_of new w ≡ mark_of old w) → most new ws ≡ most old ws

@@ -1,5 +1,5 @@
 pub mod NumbersFindNames
 pub mod NodeChecks
-pub mod PartLemmas
+pub mod PartsAreChecked
 pub mod InPlace
-pub mod StmtLemmas
+pub mod StatementsInPlace

@@ -1,4 +1,4 @@
-pub mod NamesLemmas
+pub mod OneNameChanges
 pub mod FaultsMet
 pub mod StructsTell
-pub mod SpacesLemmas
+pub mod OneMoreDeclared

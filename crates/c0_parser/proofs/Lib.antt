@@ -18,6 +18,6 @@ pub mod PiecesArePlain
 pub mod StructFields
 pub mod PlainSources
 pub mod ProductionsMean
-pub mod ItemsOf
+pub mod UnitsAreItems
 pub mod OneAnswer
 pub mod WalksDerive

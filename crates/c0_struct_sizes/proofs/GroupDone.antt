@@ -9,7 +9,7 @@ use Rattle.c0_struct_sizes.specs.declared.walk.Mark.TheVariants.{Unseen, Open, D
 use Rattle.c0_struct_sizes.specs.declared.walk.Group.{Group}
 use Rattle.c0_struct_sizes.specs.Graph.{IsIn, Leads, by_edge, by_way, EdgesLead}
 use Rattle.c0_struct_sizes.specs.Walk.{WalkState, mark_of, node_at, group_at, IsFollowed, is_done, is_open, is_left, IsGroup, IsBefore, IsWalk, unseen_work, set_all, last_group, last_start, start_node, finished, others_left}
-use Rattle.c0_struct_sizes.proofs.GraphLemmas.{seen_below, PlaceOf, place_of, in_at, in_left, in_right, in_parts, in_drop, length-set_all, set_all_cases, reaches_leads, leads_reaches}
+use Rattle.c0_struct_sizes.proofs.WaysThroughGraphs.{seen_below, PlaceOf, place_of, in_at, in_left, in_right, in_parts, in_drop, length-set_all, set_all_cases, reaches_leads, leads_reaches}
 use Rattle.c0_struct_sizes.proofs.WalkInvariant.{reach_last, followed_on, all_done}
 
 -- an edge of a group of which no edge is left leads to what is done, or to the group or behind it

@@ -1,4 +1,4 @@
-pub mod GraphLemmas
+pub mod WaysThroughGraphs
 pub mod WalkInvariant
 pub mod GroupDone
 pub mod NumbersTellNames

@@ -18,7 +18,7 @@ use Rattle.c0_meaning.specs.Sizes.{WORDS_CAP}
 use Rattle.c0_name_check.specs.Structs.{listed_words, capped_words}
 use Rattle.c0_struct_sizes.specs.Graph.{IsIn, Leads, by_edge, by_way, edges_in}
 use Rattle.c0_struct_sizes.specs.Parts.{struct_number, parts, all_capped, fields_at, edges, AreWordsOf, TellsFirst}
-use Rattle.c0_struct_sizes.proofs.GraphLemmas.{in_left, in_right, in_parts}
+use Rattle.c0_struct_sizes.proofs.WaysThroughGraphs.{in_left, in_right, in_parts}
 
 -- the fields of a struct at its place
 pub fields_there : (items : List StructDef) (v : ℕ) (d : StructDef) → v < length items → fields_at (map struct_view items) v ≡ map decl_view (get_or items v d).fields.items

@@ -11,7 +11,7 @@ use Rattle.c0_meaning.specs.Sizes.{WORDS_CAP, struct_sizes}
 use Rattle.c0_name_check.specs.Structs.{listed_words}
 use Rattle.c0_struct_sizes.specs.Graph.{IsIn}
 use Rattle.c0_struct_sizes.specs.Parts.{fields_at, all_capped, AreWordsOf, AreWordsAmong, words_by_parts, TellsFirst, IsOrderOver, listed_turning}
-use Rattle.c0_struct_sizes.proofs.GraphLemmas.{equal, in_at, in_parts}
+use Rattle.c0_struct_sizes.proofs.WaysThroughGraphs.{equal, in_at, in_parts}
 use Rattle.c0_struct_sizes.proofs.NumbersTellNames.{text_at, named_text, named_below, unnamed_fields, unnamed_words, nothing_held, held_leads, leads_held, loose_words, cyclic_words}
 
 by_flag : (P : ℕ → Type 0) (b : Bool) (x y : ℕ) → (b ≡ true → P x) → (b ≡ false → P y) → P (if b then x else y)

@@ -6,7 +6,7 @@ use Rattle.c0_struct_sizes.specs.declared.walk.Mark.{Mark}
 use Rattle.c0_struct_sizes.specs.declared.walk.Mark.TheVariants.{Unseen, Open, Done}
 use Rattle.c0_struct_sizes.specs.Graph.{IsIn, IsOrder}
 use Rattle.c0_struct_sizes.specs.Walk.{WalkState, mark_of, IsWalk, mark_work, unseen_work, numbers_below, walk_start}
-use Rattle.c0_struct_sizes.proofs.GraphLemmas.{seen_below, in_left, in_right, in_parts, replicate_at}
+use Rattle.c0_struct_sizes.proofs.WaysThroughGraphs.{seen_below, in_left, in_right, in_parts, replicate_at}
 
 below_in : (n v : ℕ) → v < n → IsIn (numbers_below n) v
 below_in zero v lt = absurd (omega arith)

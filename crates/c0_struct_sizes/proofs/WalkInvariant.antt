@@ -9,7 +9,7 @@ use Rattle.c0_struct_sizes.specs.declared.walk.Mark.TheVariants.{Unseen, Open, D
 use Rattle.c0_struct_sizes.specs.declared.walk.Group.{Group}
 use Rattle.c0_struct_sizes.specs.Graph.{IsIn, Leads, by_edge, EdgesLead}
 use Rattle.c0_struct_sizes.specs.Walk.{WalkState, mark_of, node_at, group_at, IsFollowed, is_done, is_open, is_left, IsGroup, IsBefore, LeadsBack, AreDone, IsWalk, mark_work, unseen_work, set_all, met, last_group, without_target, merged, target_of}
-use Rattle.c0_struct_sizes.proofs.GraphLemmas.{equal, in_left, in_right, in_parts, last_split, reaches_leads, leads_reaches, leads_edge}
+use Rattle.c0_struct_sizes.proofs.WaysThroughGraphs.{equal, in_left, in_right, in_parts, last_split, reaches_leads, leads_reaches, leads_edge}
 
 -- an edge stays followed where what is done or open stays so, and what is left stays left or is followed
 pub followed_on : (old new : List Mark) (start : ℕ) (before after : List ℕ) (w : ℕ)

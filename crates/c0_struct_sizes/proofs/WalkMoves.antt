@@ -6,7 +6,7 @@ use Rattle.std.proofs.lemmas.List.{length-append, length-take-le}
 use Rattle.c0_struct_sizes.specs.declared.walk.Mark.TheVariants.{Unseen, Open, Done}
 use Rattle.c0_struct_sizes.specs.Graph.{IsIn, Leads}
 use Rattle.c0_struct_sizes.specs.Walk.{WalkState, mark_of, node_at, group_at, is_done, is_open, IsWalk, met, set_all, last_group, last_start, finished, without_target, merged, target_of, others_left, unseen_work, work}
-use Rattle.c0_struct_sizes.proofs.GraphLemmas.{in_at, in_drop}
+use Rattle.c0_struct_sizes.proofs.WaysThroughGraphs.{in_at, in_drop}
 use Rattle.c0_struct_sizes.proofs.WalkInvariant.{target_held, target_dropped, groups_joined, number_met, met_work, all_done}
 
 module _ (edges : ℕ → List ℕ) (count : ℕ) where

@@ -4,7 +4,7 @@ use Rattle.mips_machine.specs.Machine.{state_of}
 use Rattle.cvm_outside.specs.Outside.{no_files, output}
 use Rattle.cvm_outside.proofs.ScriptsFollow.{first}
 use Rattle.cvm_outside.proofs.RowsPut.{loop_none, loop_more, loop_stop, unwritten, same_size}
-use Rattle.boot_report.proofs.MemoryLemmas.{reads_quiet, page_performs}
+use Rattle.boot_report.proofs.PagesByLines.{reads_quiet, page_performs}
 use Rattle.boot_report.proofs.memory.put_memory.Goals as goal
 
 pub loop-p-init : goal.loop-p-init

@@ -4,7 +4,7 @@ use Rattle.std.proofs.lemmas.Result.{err_from_is_err_and}
 use Rattle.cvm_outside.proofs.RowsPut.{puts_same}
 use Rattle.boot_report.specs.Texts.{memory_row}
 use Rattle.boot_report.proofs.TextsInTurn.{rows_none, rows_more, rows_stop, texts-lines}
-use Rattle.boot_report.proofs.MemoryLemmas.{line_is}
+use Rattle.boot_report.proofs.PagesByLines.{line_is}
 use Rattle.boot_report.proofs.memory.put_page.Goals as goal
 
 pub loop-i-init : goal.loop-i-init

@@ -4,7 +4,7 @@ use Rattle.std.proofs.Math.Nat.{mul-le-mul_left}
 use Rattle.layer_map.specs.declared.params.Params.{Params}
 use Rattle.cvm_outside.specs.Outside.{output, drive}
 use Rattle.boot_report.specs.Texts.{pages_in}
-use Rattle.boot_report.proofs.UserLemmas.{user_performs, user_breaks}
+use Rattle.boot_report.proofs.UserScripts.{user_performs, user_breaks}
 use Rattle.boot_report.proofs.users.put_one.Goals as goal
 
 pub overflow_mul-user : goal.overflow_mul-user

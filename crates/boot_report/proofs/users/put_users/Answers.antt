@@ -3,7 +3,7 @@ use Rattle.std.specs.Prelude.{◌==◌}
 use Rattle.std.proofs.lemmas.Result.{err_from_is_err_and}
 use Rattle.cvm_outside.specs.Outside.{no_files}
 use Rattle.cvm_outside.proofs.RowsPut.{loop_none, loop_more, loop_stop_by, unwritten, same_size}
-use Rattle.boot_report.proofs.UserLemmas.{user_quiet, told_here, somebody}
+use Rattle.boot_report.proofs.UserScripts.{user_quiet, told_here, somebody}
 use Rattle.boot_report.proofs.users.put_users.Goals as goal
 
 pub loop-i-init : goal.loop-i-init

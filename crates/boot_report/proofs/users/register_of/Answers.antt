@@ -2,7 +2,7 @@ use Rattle.std.proofs.Common.{sym, ap, ◌∙◌}
 use Rattle.std.specs.Prelude.{slice_index}
 use Rattle.layer_map.specs.Map.{block_at}
 use Rattle.boot_report.specs.Texts.{shown_cpu}
-use Rattle.boot_report.proofs.UserLemmas.{register_in_block}
+use Rattle.boot_report.proofs.UserScripts.{register_in_block}
 use Rattle.boot_report.proofs.users.register_of.Goals as goal
 
 pub returns : goal.returns

@@ -1,5 +1,5 @@
 use Rattle.std.proofs.Common.{◌*◌, ◌/◌, ◌+◌, ◌∙◌, refl, arith, get_or}
-use Rattle.boot_run.proofs.PageLemmas.{put_more, put_step}
+use Rattle.boot_run.proofs.PagesWritten.{put_more, put_step}
 use Rattle.boot_run.proofs.pages.put_words.Goals as goal
 
 pub loop-i-preserved : goal.loop-i-preserved

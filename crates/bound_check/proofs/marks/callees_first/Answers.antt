@@ -5,7 +5,7 @@ use Rattle.std.proofs.lemmas.Result.{IfOk-weaker}
 use Rattle.c0_tree.specs.View.{unit_view}
 use Rattle.c0_struct_sizes.specs.Graph.{IsOrder, IsOrderOf}
 use Rattle.bound_check.specs.Calls.{callees}
-use Rattle.c0_struct_sizes.proofs.GraphLemmas.{listed_inside, listed_order}
+use Rattle.c0_struct_sizes.proofs.WaysThroughGraphs.{listed_inside, listed_order}
 use Rattle.bound_check.proofs.FunctionsTold.{calls_listed, all_listed}
 use Rattle.bound_check.proofs.marks.callees_first.Goals as goal
 

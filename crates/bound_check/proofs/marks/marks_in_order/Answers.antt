@@ -8,7 +8,7 @@ use Rattle.bound_check.specs.Calls.{callees}
 use Rattle.bound_check.specs.declared.marks.Mark.{Mark}
 use Rattle.bound_check.specs.declared.marks.Mark.TheVariants.{Unseen}
 use Rattle.bound_check.specs.Marks.{mark_of, most, mark_by, told_words, MAX_FRAME}
-use Rattle.c0_struct_sizes.proofs.GraphLemmas.{in_at, replicate_at}
+use Rattle.c0_struct_sizes.proofs.WaysThroughGraphs.{in_at, replicate_at}
 use Rattle.bound_check.proofs.FunctionsTold.{most_below, told_more, small_more, calls_listed, all_listed}
 use Rattle.bound_check.proofs.marks.marks_in_order.Goals as goal
 

@@ -6,7 +6,7 @@ use Rattle.c0_meaning.specs.Form.{ty_view}
 use Rattle.c0_body_check.specs.Scope.{env_view}
 use Rattle.c0_body_check.specs.Stmts.{faults_of_stmts}
 use Rattle.c0_name_check.proofs.FaultsMet.{two_met}
-use Rattle.c0_body_check.proofs.StmtLemmas.{lent_stmts}
+use Rattle.c0_body_check.proofs.StatementsInPlace.{lent_stmts}
 use Rattle.c0_body_check.proofs.body.check_code.Goals as goal
 
 pub returns-clause-met : goal.returns-clause-met

@@ -8,7 +8,7 @@ use Rattle.c0_meaning.specs.Statement.{parameter_types, args_faults}
 use Rattle.c0_name_check.specs.Met.{met_view}
 use Rattle.c0_body_check.specs.Scope.{env_view, callee_view}
 use Rattle.c0_body_check.proofs.InPlace.{rest, in_place_step, in_place_end}
-use Rattle.c0_body_check.proofs.PartLemmas.{args_step}
+use Rattle.c0_body_check.proofs.PartsAreChecked.{args_step}
 use Rattle.c0_body_check.proofs.calls.check_args.Goals as goal
 
 pub loop-index-preserved : goal.loop-index-preserved

@@ -1,6 +1,6 @@
 -- The expression is checked, and then its type is compared with the one that is asked.
 use Rattle.c0_body_check.specs.Scope.{env_view}
-use Rattle.c0_body_check.proofs.PartLemmas.{given_part}
+use Rattle.c0_body_check.proofs.PartsAreChecked.{given_part}
 use Rattle.c0_body_check.proofs.parts.check_given.Goals as goal
 
 pub returns : goal.returns

@@ -1,6 +1,6 @@
 -- The left side is checked as an expression, and then asked for a place and a scalar type.
 use Rattle.c0_body_check.specs.Scope.{env_view}
-use Rattle.c0_body_check.proofs.PartLemmas.{left_part}
+use Rattle.c0_body_check.proofs.PartsAreChecked.{left_part}
 use Rattle.c0_body_check.proofs.parts.check_left.Goals as goal
 
 pub returns : goal.returns

@@ -1,6 +1,6 @@
 -- The expression is checked where its type is asked, and then its need of registers.
 use Rattle.c0_body_check.specs.Scope.{env_view}
-use Rattle.c0_body_check.proofs.PartLemmas.{tested_part}
+use Rattle.c0_body_check.proofs.PartsAreChecked.{tested_part}
 use Rattle.c0_body_check.proofs.parts.check_tested.Goals as goal
 
 pub returns : goal.returns

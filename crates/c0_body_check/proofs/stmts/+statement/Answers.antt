@@ -18,7 +18,7 @@ use Rattle.c0_body_check.specs.Scope.{env_view}
 use Rattle.c0_body_check.specs.Stmts.{choice_faults, loop_faults, faults_of_stmt, faults_of_stmts, resolved_of_stmt, resolved_of_stmts}
 use Rattle.c0_body_check.proofs.InPlace.{in_place_at, in_place_step, in_place_end}
 use Rattle.c0_name_check.proofs.FaultsMet.{two_met}
-use Rattle.c0_body_check.proofs.StmtLemmas.{stmt_falls, lent_stmts, resolved-stmts_of, stmts_step}
+use Rattle.c0_body_check.proofs.StatementsInPlace.{stmt_falls, lent_stmts, resolved-stmts_of, stmts_step}
 use Rattle.c0_body_check.proofs.stmts.+statement.Goals as goal
 
 view_if : (s : _) (t : _) (a b : _) → stmt_view (rust.If s t a b) ≡ choice s (expr_view t) (stmts_view a.items) (stmts_view b.items)

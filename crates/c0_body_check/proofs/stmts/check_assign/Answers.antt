@@ -1,6 +1,6 @@
 -- The faults of the two sides, and of their need, are those of the assignment.
 use Rattle.c0_body_check.specs.Scope.{env_view}
-use Rattle.c0_body_check.proofs.PartLemmas.{assign_met}
+use Rattle.c0_body_check.proofs.PartsAreChecked.{assign_met}
 use Rattle.c0_body_check.proofs.stmts.check_assign.Goals as goal
 
 pub returns-clause-met : goal.returns-clause-met

@@ -4,7 +4,7 @@ use Rattle.std.proofs.lemmas.List.{length-map}
 use Rattle.c0_tree.specs.View.{expr_view, name_view}
 use Rattle.c0_meaning.specs.Env.{callee_named}
 use Rattle.c0_body_check.specs.Scope.{env_view}
-use Rattle.c0_body_check.proofs.PartLemmas.{call_met}
+use Rattle.c0_body_check.proofs.PartsAreChecked.{call_met}
 use Rattle.c0_body_check.proofs.stmts.check_call.Goals as goal
 
 pub returns-clause-met : goal.returns-clause-met

@@ -1,7 +1,7 @@
 -- The faults are met in another order than the rule lists them, and the least is the same.
 use Rattle.c0_tree.specs.View.{type_view}
 use Rattle.c0_body_check.specs.Scope.{env_view}
-use Rattle.c0_body_check.proofs.PartLemmas.{new_met}
+use Rattle.c0_body_check.proofs.PartsAreChecked.{new_met}
 use Rattle.c0_body_check.proofs.stmts.check_new.Goals as goal
 
 pub returns-clause-met : goal.returns-clause-met

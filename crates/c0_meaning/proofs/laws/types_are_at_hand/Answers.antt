@@ -1,4 +1,4 @@
-use Rattle.c0_meaning.proofs.TypeAtLemmas.{types_are_at_hand}
+use Rattle.c0_meaning.proofs.TypedByNumbers.{types_are_at_hand}
 use Rattle.c0_meaning.proofs.laws.types_are_at_hand.Goals as goal
 
 pub returns : goal.returns

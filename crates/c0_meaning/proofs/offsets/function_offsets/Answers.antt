@@ -8,7 +8,7 @@ use Rattle.c0_meaning.specs.Offsets.{offsets, offsets_from}
 use Rattle.c0_meaning.specs.Sound.{shapes}
 use Rattle.c0_meaning.specs.TypedState.{types_of}
 use Rattle.c0_meaning.specs.Words.{all_words}
-use Rattle.c0_meaning.proofs.OffsetLemmas.{push_both}
+use Rattle.c0_meaning.proofs.OffsetsAddUp.{push_both}
 use Rattle.c0_meaning.proofs.offsets.function_offsets.Goals as goal
 
 pub returns-in_ok-push_offsets-in-Code : goal.returns-in_ok-push_offsets-in-Code

@@ -7,7 +7,7 @@ use Rattle.c0_meaning.specs.Words.{words}
 use Rattle.c0_meaning.specs.Sizes.{capped}
 use Rattle.c0_meaning.specs.Sound.{shapes, IsSized}
 use Rattle.c0_meaning.specs.Offsets.{offsets_from}
-use Rattle.c0_meaning.proofs.OffsetLemmas.{push_one, types_left}
+use Rattle.c0_meaning.proofs.OffsetsAddUp.{push_one, types_left}
 use Rattle.c0_meaning.proofs.SizedTypes.{decl_sized, words_left}
 use Rattle.c0_meaning.proofs.offsets.push_offsets.Goals as goal
 

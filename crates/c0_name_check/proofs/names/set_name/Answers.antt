@@ -1,6 +1,6 @@
 -- A key with the bytes of a name that is new: the map says its number of that name, and the same as before of the others.
 use Rattle.std.proofs.Common.{◌++◌, sym, ap, ◌∙◌}
-use Rattle.c0_name_check.proofs.NamesLemmas.{look-set_key}
+use Rattle.c0_name_check.proofs.OneNameChanges.{look-set_key}
 use Rattle.c0_name_check.proofs.names.set_name.Goals as goal
 
 pub returns-clause-names : goal.returns-clause-names

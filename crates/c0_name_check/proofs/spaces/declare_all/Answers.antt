@@ -8,7 +8,7 @@ use Rattle.c0_tree.specs.View.{decl_view}
 use Rattle.c0_name_check.specs.Met.{met_view}
 use Rattle.c0_name_check.specs.Names.{look, number_named}
 use Rattle.c0_name_check.specs.Spaces.{twice_by}
-use Rattle.c0_name_check.proofs.SpacesLemmas.{names_step, met_step}
+use Rattle.c0_name_check.proofs.OneMoreDeclared.{names_step, met_step}
 use Rattle.c0_name_check.proofs.spaces.declare_all.Goals as goal
 
 pub loop-decl-preserved : goal.loop-decl-preserved

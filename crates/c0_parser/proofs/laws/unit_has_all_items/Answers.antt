@@ -1,4 +1,4 @@
-use Rattle.c0_parser.proofs.ItemsOf.{made_of_items, items_read, count_items}
+use Rattle.c0_parser.proofs.UnitsAreItems.{made_of_items, items_read, count_items}
 use Rattle.c0_parser.proofs.laws.unit_has_all_items.Goals as goal
 
 pub returns-clause-made : goal.returns-clause-made

@@ -5,7 +5,7 @@ use Rattle.std.proofs.lemmas.List.{length-map}
 use Rattle.c0_tree.specs.View.{struct_view}
 use Rattle.c0_name_check.specs.Names.{look}
 use Rattle.c0_struct_sizes.specs.Parts.{AreWordsOf, words_by_parts}
-use Rattle.c0_struct_sizes.proofs.GraphLemmas.{in_at}
+use Rattle.c0_struct_sizes.proofs.WaysThroughGraphs.{in_at}
 use Rattle.c0_struct_sizes.proofs.OrderTells.{words_right, words_more}
 use Rattle.c0_struct_sizes.proofs.fields.words_in_order.Goals as goal
 

@@ -6,7 +6,7 @@ use Rattle.c0_tree.specs.View.{struct_view}
 use Rattle.c0_name_check.specs.Names.{look}
 use Rattle.c0_struct_sizes.specs.Graph.{edges_in, IsOrderOf}
 use Rattle.c0_struct_sizes.specs.Parts.{parts, edges, IsOrderOver}
-use Rattle.c0_struct_sizes.proofs.GraphLemmas.{listed_inside, listed_order}
+use Rattle.c0_struct_sizes.proofs.WaysThroughGraphs.{listed_inside, listed_order}
 use Rattle.c0_struct_sizes.proofs.NumbersTellNames.{edge_below, parts_there}
 use Rattle.c0_struct_sizes.proofs.sizes.parts_first.Goals as goal
 

@@ -9,7 +9,7 @@ use Rattle.c0_meaning.specs.Fault.{kept_all}
 use Rattle.c0_name_check.specs.Met.{met_view}
 use Rattle.c0_name_check.specs.Names.{look, number_named}
 use Rattle.c0_name_check.specs.Spaces.{twice_by}
-use Rattle.c0_name_check.proofs.SpacesLemmas.{met_step}
+use Rattle.c0_name_check.proofs.OneMoreDeclared.{met_step}
 use Rattle.c0_types.proofs.DeclaredSpaces.{number_step, number_end}
 use Rattle.c0_types.proofs.DeclaredStructs.{number_viewed}
 use Rattle.c0_types.proofs.structs.name_structs.Goals as goal

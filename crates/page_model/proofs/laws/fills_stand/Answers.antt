@@ -1,5 +1,5 @@
 -- An edit, and one after an eviction.
-use Rattle.page_model.proofs.PagingLaws.{fills_are}
+use Rattle.page_model.proofs.PagingLawsHold.{fills_are}
 use Rattle.page_model.proofs.laws.fills_stand.Goals as goal
 
 pub returns : goal.returns

@@ -1,5 +1,5 @@
 -- By the two cases of a handled page.
-use Rattle.page_model.proofs.PagingLaws.{handled_are}
+use Rattle.page_model.proofs.PagingLawsHold.{handled_are}
 use Rattle.page_model.proofs.laws.handled_pages_pass.Goals as goal
 
 pub returns : goal.returns

@@ -1,5 +1,5 @@
 -- An edit that leaves the entry.
-use Rattle.page_model.proofs.PagingLaws.{stores_are}
+use Rattle.page_model.proofs.PagingLawsHold.{stores_are}
 use Rattle.page_model.proofs.laws.stores_stand.Goals as goal
 
 pub returns : goal.returns

@@ -3,7 +3,7 @@ use Rattle.std.proofs.lemmas.Result.{err_from_is_err_and}
 use Rattle.boot_run.specs.OneTurn.{TurnsSay, as_turns}
 use Rattle.boot_turns.specs.declared.answers.Turn.{Turn}
 use Rattle.boot_run.proofs.ScriptsOfTurns.{as_calls}
-use Rattle.boot_run.proofs.OneTurn.{as_one}
+use Rattle.boot_run.proofs.TurnIsOneOfTurns.{as_one}
 use Rattle.boot_run.proofs.run.Run.turn.Goals as goal
 
 pub returns-in_err-turn : goal.returns-in_err-turn

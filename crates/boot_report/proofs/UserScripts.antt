@@ -13,7 +13,7 @@ use Rattle.boot_report.specs.Resident.{page_reads}
 use Rattle.boot_report.specs.declared.fault.ReportFault.{ReportFault}
 use Rattle.boot_report.specs.declared.fault.ReportFault.TheVariants.{Disk, Sink}
 use Rattle.boot_report.specs.Scripts.{of_report, page_script, pages_script, user_script}
-use Rattle.boot_report.proofs.MemoryLemmas.{reads_quiet}
+use Rattle.boot_report.proofs.PagesByLines.{reads_quiet}
 
 pub register_in_block : (memory : List ℕ) (b r : ℕ) → 1 ≤ r → r ≤ 31 → get_or memory (b + r) 0 ≡ get_or (0 ∷ take 31 (drop (b + 1) memory)) r 0
 register_in_block memory b zero some few = absurd (omega arith)
