@@ -3,7 +3,7 @@ use Rattle.std.proofs.Common.{◌≡◌, ℕ, zero, suc, ◌+◌, ◌-◌, ◌<�
 use Rattle.std.specs.Prelude.{IfSome, ◌≢◌}
 use Rattle.std.specs.Option.{option_map}
 use Rattle.std.specs.Io.KnownBytes.{append_known}
-use Rattle.cvm_outside.specs.Causes.{Counts}
+use Rattle.cvm_outside.specs.Causes.{Counts, Rose}
 use Rattle.cvm_outside.specs.Numbering.{counted_up, until_fault}
 use Rattle.cvm_outside.specs.Told.{AppendsPart, with_sector}
 use Rattle.cvm_outside.specs.declared.sink.SinkFault.{SinkFault}
@@ -11,7 +11,7 @@ use Rattle.cvm_outside.specs.declared.sectors.DiskFault.{DiskFault}
 use Rattle.cvm_outside.proofs.PartsMakeTheWhole.{append_known-nil, append_known-append, part-front, part-back}
 use Rattle.cvm_outside.proofs.ScriptsFollow.{both, first}
 use Rattle.cvm_outside.specs.Outside.{Outside, Output, Drive, Files}
-use Rattle.cvm_outside.specs.Script.{Call, Printed, Read, Wrote, Got, Stored, Who, TheSink, TheDisk, TheShelf, Performs, done, breaks, goes_on, CallDone, CallFailed, Rises, disk_called, scripts, Puts, blame, of_sink, of_disk, WritesNoSector}
+use Rattle.cvm_outside.specs.Script.{Call, Printed, Read, Wrote, Got, Stored, Who, TheSink, TheDisk, TheShelf, Performs, done, breaks, goes_on, CallDone, CallFailed, disk_called, scripts, Puts, blame, of_sink, of_disk, WritesNoSector}
 
 -- nothing is put
 pub puts_none : (at : Output) → Puts [] at at None
@@ -23,7 +23,7 @@ puts_both a b old mid new None p q = record {
   by = q.by ∙ ap (λ (m : Output). record m { text = append_known m.text b }) p.by ∙ ap (λ t. record old { text = t }) (append_known-append old.text a b);
 }
 puts_both a b old mid new (Some TheSink) p q = record {
-  by = (part-back old.text mid.text new.text a b (ap (λ (m : Output). m.text) p.by) q.by.0, subst (λ n. Rises n new.faults) (ap (λ (m : Output). m.faults) p.by) q.by.1);
+  by = (part-back old.text mid.text new.text a b (ap (λ (m : Output). m.text) p.by) q.by.0, subst (λ n. Rose n new.faults) (ap (λ (m : Output). m.faults) p.by) q.by.1);
 }
 puts_both a b old mid new (Some TheDisk) p q = absurd q.by
 puts_both a b old mid new (Some TheShelf) p q = absurd q.by
@@ -41,7 +41,7 @@ puts_same a b old new blamed e p = subst (λ (rows : List ℕ). Puts rows old ne
 -- one call of a sink
 pub put_once : {T : Type 0} (rows : List ℕ) (old new : Output) (r : Result T SinkFault) → OnOk r (new.text ≡ append_known old.text rows) → OnErr r (AppendsPart old.text new.text rows) → Counts old.faults new.faults r → Puts rows old new (blame of_sink r)
 put_once rows old new (Ok v) all part count = record { by = ap₂ (λ t (n : ℕ). record old { text = t; faults = n }) all count.same }
-put_once rows old new (Err e) all part count = record { by = (part, record { later = count.later; rose = count.rose }) }
+put_once rows old new (Err e) all part count = record { by = (part, count.rose) }
 
 -- it is a script
 pub performed : (told : Option (List ℕ)) (rows : List ℕ) (shelf : Files) (disk : Drive) (old new : Output) (blamed : Option Who) → IfSome told (λ text. rows ≡ text) → Puts rows old new blamed →
@@ -69,7 +69,7 @@ read_once sector shelf sink old new (Ok v) within size same count calls all =
   where
     same_drive : (at : Drive → Outside) (old new : Drive) → new.size ≡ old.size → new.sectors ≡ old.sectors → new.faults ≡ old.faults → new.calls ≡ until_fault old.faults old.calls → new.all_calls ≡ counted_up old.all_calls → at new ≡ at (disk_called old)
     same_drive at old new size same faults calls all = rw (size, same, faults, calls, all) refl
-read_once sector shelf sink old new (Err e) within size same count calls all = breaks (Read sector) [] _ _ (record { later = count.later; rose = count.rose }, torn (λ d. record { shelf = shelf; sink = sink; disk = d }), within)
+read_once sector shelf sink old new (Err e) within size same count calls all = breaks (Read sector) [] _ _ (count.rose, torn (λ d. record { shelf = shelf; sink = sink; disk = d }), within)
   where
     torn : (at : Drive → Outside) → at new ≡ at (record (disk_called old) { faults = new.faults })
     torn at = rw (size, same, calls, all) refl
@@ -83,7 +83,7 @@ write_once sector words shelf sink old new (Ok v) within size whole torn count c
     whole_drive : (at : Drive → Outside) (n : ℕ) → n ≡ old.faults → at (record new { faults = n }) ≡ at (record (disk_called old) { sectors = with_sector old.sectors sector words })
     whole_drive at n e = rw (size, whole, calls, all, e) refl
 write_once sector words shelf sink old new (Err e) within size whole torn count calls all =
-    breaks (Wrote sector words) [] _ _ (record { later = count.later; rose = count.rose }, (torn.0, part (λ d. record { shelf = shelf; sink = sink; disk = d })), within)
+    breaks (Wrote sector words) [] _ _ (count.rose, (torn.0, part (λ d. record { shelf = shelf; sink = sink; disk = d })), within)
   where
     part : (at : Drive → Outside) → at new ≡ at (record (disk_called old) { faults = new.faults; sectors = with_sector old.sectors sector torn.0 })
     part at = rw (size, torn.1, calls, all) refl

@@ -1,5 +1,5 @@
 -- SCRIPTS: the calls of the outside that a piece of work makes, in order, where it does what it is asked; and what is left where one of them failed.
-use Rattle.std.specs.Prelude.{◌≡◌, ◌≢◌, ℕ, zero, suc, ◌<◌, ◌≤◌, min, length, List, [], ◌∷◌, ◌++◌, Bool, true, false, Option, Some, None, IfSome, Result, Ok, Err, slice_set}
+use Rattle.std.specs.Prelude.{◌≡◌, ◌≢◌, ℕ, zero, suc, ◌<◌, min, length, List, [], ◌∷◌, ◌++◌, Bool, true, false, Option, Some, None, IfSome, Result, Ok, Err, slice_set}
 use Rattle.std.specs.Option.{option_map}
 use Rattle.std.specs.Io.KnownBytes.{append_known}
 use Rattle.cvm_outside.specs.Causes.{Rose}
@@ -43,11 +43,6 @@ of_sink fault = Some TheSink
 abbrev pub of_disk : DiskFault → Option Who
 of_disk fault = Some TheDisk
 
--- a count of faults rose
-pub record Rises (before now : ℕ) : Type 0 where
-  pub later : before ≤ now
-  pub rose : Rose before now
-
 -- a disk that was called once more
 abbrev pub disk_called : Drive → Drive
 disk_called d = record d { calls = until_fault d.faults d.calls; all_calls = counted_up d.all_calls }
@@ -75,20 +70,20 @@ CallDone (Stored name bytes) old new =
 -- what one leaves that failed: a part of the text, a sector or a file that is torn; and its object counts a fault. A file that is surely given is got
 abbrev pub CallFailed : Call → (old new : Outside) → Type 0
 CallFailed (Printed told) old new =
-    IfSome told (λ text. AppendsPart old.sink.text new.sink.text text) × Rises old.sink.faults new.sink.faults × (new ≡ record old { sink = new.sink })
+    IfSome told (λ text. AppendsPart old.sink.text new.sink.text text) × Rose old.sink.faults new.sink.faults × (new ≡ record old { sink = new.sink })
 CallFailed (Read sector) old new =
-    Rises old.disk.faults new.disk.faults × (new ≡ record old { disk = record (disk_called old.disk) { faults = new.disk.faults } })
+    Rose old.disk.faults new.disk.faults × (new ≡ record old { disk = record (disk_called old.disk) { faults = new.disk.faults } })
     × (sector < old.disk.size)
 CallFailed (Wrote sector words) old new =
-    Rises old.disk.faults new.disk.faults
+    Rose old.disk.faults new.disk.faults
     × ((torn : List ℕ) × (new ≡ record old { disk = record (disk_called old.disk) { faults = new.disk.faults; sectors = with_sector old.disk.sectors sector torn } }))
     × (sector < old.disk.size)
 CallFailed (Got name) old new =
-    ((n : List ℕ) → new.shelf.file n ≡ old.shelf.file n) × Rises old.shelf.faults new.shelf.faults × (new ≡ record old { shelf = new.shelf })
+    ((n : List ℕ) → new.shelf.file n ≡ old.shelf.file n) × Rose old.shelf.faults new.shelf.faults × (new ≡ record old { shelf = new.shelf })
     × ShelfCalled old.shelf new.shelf × (old.shelf.gives name ≡ false)
 CallFailed (Stored name bytes) old new =
     ((n : List ℕ) → n ≢ name → new.shelf.file n ≡ old.shelf.file n) × IsCutOff (old.shelf.file name) bytes (new.shelf.file name)
-    × Rises old.shelf.faults new.shelf.faults × (new ≡ record old { shelf = record new.shelf { taken = old.shelf.taken } })
+    × Rose old.shelf.faults new.shelf.faults × (new ≡ record old { shelf = record new.shelf { taken = old.shelf.taken } })
     × ShelfCalled old.shelf new.shelf
 
 -- THE CALLS OF A SCRIPT ARE MADE, in order: all are done and nobody is blamed; or those before one are done and that one failed, whose object is blamed,
@@ -134,7 +129,7 @@ WritesNoSector (call ∷ rest) = WritesNoSector rest
 -- what a sink comes to in which rows are put: they follow its text; or a part of them, where it failed
 abbrev pub PutBy : Option Who → (rows : List ℕ) → (old new : Output) → Type 0
 PutBy None rows old new = new ≡ record old { text = append_known old.text rows }
-PutBy (Some TheSink) rows old new = AppendsPart old.text new.text rows × Rises old.faults new.faults
+PutBy (Some TheSink) rows old new = AppendsPart old.text new.text rows × Rose old.faults new.faults
 PutBy (Some other) rows old new = ⊥
 
 -- ROWS ARE PUT, by as many calls as it takes: the script of one text

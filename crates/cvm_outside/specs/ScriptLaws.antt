@@ -5,7 +5,8 @@ use Rattle.std.specs.Io.KnownBytes.{append_known}
 use Rattle.cvm_outside.specs.Told.{AppendsPart}
 use Rattle.cvm_outside.specs.Numbering.{Tally, called, counted_times}
 use Rattle.cvm_outside.specs.Outside.{Outside, counts, shelf_counts}
-use Rattle.cvm_outside.specs.Script.{Call, Got, Stored, Who, TheDisk, TheShelf, who, CallFailed, Performs, Rises, spoken, disk_calls, shelf_calls, sectors_after, faults_of}
+use Rattle.cvm_outside.specs.Causes.{Rose}
+use Rattle.cvm_outside.specs.Script.{Call, Got, Stored, Who, TheDisk, TheShelf, who, CallFailed, Performs, spoken, disk_calls, shelf_calls, sectors_after, faults_of}
 
 -- two scripts one after another; and one that breaks off before another
 abbrev pub Follow : Type 0
@@ -59,7 +60,7 @@ ScriptsStore = (a : List Call) (old new : Outside) → Performs a old new None �
 
 -- the count of faults of whom an answer blames rose, and that of each other object is as before
 pub record Blamed (old new : Outside) (blamed : Option Who) (whom : Who) : Type 0 where
-  pub rose : blamed ≡ Some whom → Rises (faults_of whom old) (faults_of whom new)
+  pub rose : blamed ≡ Some whom → Rose (faults_of whom old) (faults_of whom new)
   pub same : (blamed ≡ Some whom → ⊥) → faults_of whom new ≡ faults_of whom old
 
 abbrev pub ScriptsBlame : Type 0

@@ -1,6 +1,5 @@
 // Counts of calls and of faults; and the calls of an object in memory, numbered from 0, some of which fail.
 ghost use Rattle.std.specs.Prelude.{◌≡◌, ◌≤◌, true, false};
-ghost use Rattle.cvm_outside.specs.Causes.{Rose};
 ghost use Rattle.cvm_outside.specs.Numbering.{fresh, counted_up, until_fault, is_listed, is_spent, numbered_call};
 
 use std::marker::Model;
@@ -43,8 +42,6 @@ impl Tally {
     // Counts a fault.
     pub(crate) fn count_fault(&mut self)
         ensures faults { self.new.faults ≡ counted_up self.old.faults }
-        ensures later { self.old.faults ≤ self.new.faults }
-        ensures rose { Rose self.old.faults self.new.faults }
         ensures calls { self.new.calls ≡ self.old.calls }
         ensures all_calls { self.new.all_calls ≡ self.old.all_calls }
     {
@@ -93,7 +90,6 @@ impl Calls {
     // Counts a fault.
     pub(crate) fn count_fault(&mut self)
         ensures counted { self.new ≡ record self.old { faults = counted_up self.old.faults } }
-        ensures later { self.old.faults ≤ self.new.faults }
     {
         self.tally.count_fault();
     }

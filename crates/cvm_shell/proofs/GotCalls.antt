@@ -62,7 +62,7 @@ one_stopped name rest old new Failed sink disk g = record {
   after = rest;
   all = refl;
   short = tt;
-  performs = breaks (Got name) [] _ _ (g.files, record { later = g.count.later; rose = g.count.cases }, refl, g.called, g.sure refl);
+  performs = breaks (Got name) [] _ _ (g.files, g.count.cases, refl, g.called, g.sure refl);
   few = λ h. let e = g.long.1 h in cc;
 }
 one_stopped name rest old new Long sink disk g =

@@ -73,7 +73,7 @@ put_does name bytes sink disk old new p = (p.others, p.whole, p.count.cases, ap 
 
 pub put_fails : (name bytes : List ℕ) (sink : Output) (disk : Drive) (old new : Files) (f : ShelfFault) → OnePut name bytes old new (Err f) → CallFailed (Stored name bytes) (beside sink disk old) (beside sink disk new)
 put_fails name bytes sink disk old new Failed p =
-    (p.others, p.part, record { later = p.count.later; rose = p.count.cases }, ap (λ (t : ℕ). beside sink disk (record new { taken = t })) p.taken, p.called)
+    (p.others, p.part, p.count.cases, ap (λ (t : ℕ). beside sink disk (record new { taken = t })) p.taken, p.called)
 put_fails name bytes sink disk old new TooLong p = absurd (p.few.0 refl)
 put_fails name bytes sink disk old new NoMemory p = absurd (p.few.1 refl)
 

@@ -62,7 +62,7 @@ module _ (blame : ScriptsBlame) where
   -- nobody is blamed where no call fails
   module _ (words : List (List ℕ)) (old new : Outside) (status : Status) (h : WasDone words old new status) where
     rose : (w : Who) → h.blamed ≡ Some w → Rose (faults_of w old) (faults_of w new)
-    rose w e = ((of_done blame words old new status h w).rose e).rose
+    rose w e = (of_done blame words old new status h w).rose e
 
     shelf_serves : (c : Command) → IsCommand words c → ShelfServes c old new → h.blamed ≡ Some TheShelf → ⊥
     shelf_serves c is (inr none) e = none (rose TheShelf e)
@@ -118,7 +118,7 @@ module _ (blame : ScriptsBlame) where
           let front : GetsGiven old.shelf.gives (gets (g.before ++ g.name ∷ [])) =
           given_front old.shelf.gives g.before g.after g.name (subst (AreSurelyGiven old.shelf.gives) (sym g.all) got) in
           (given (gets (g.before ++ g.name ∷ [])) old new (Some TheShelf) g.performs).sure front refl
-      by (inr none) = none ((of_no_file blame (files_of c) old new g TheShelf).rose refl).rose
+      by (inr none) = none ((of_no_file blame (files_of c) old new g TheShelf).rose refl)
 
   refused_so : (r : Refusal) → refusal_status r ≡ Refused → r ≢ too_long
   refused_so r e n = absurd (let z : Shelf ≡ Refused = sym (ap refusal_status n) ∙ e in cc)

@@ -15,7 +15,8 @@ use Rattle.run_scripts.specs.Refusal.{Refusal, small_disk, no_such_user, too_lon
 use Rattle.run_scripts.specs.Plan.{Plan, bad_words, refuses, puts, boots, saves, resumes, prints as tells, PlanComesTo, AllTold, IsPlan}
 use Rattle.cvm_outside.specs.ScriptLaws.{ScriptsBlame}
 use Rattle.cvm_outside.specs.Outside.{Outside, Drive, Output}
-use Rattle.cvm_outside.specs.Script.{Call, Who, TheSink, TheDisk, TheShelf, Performs, done as all_done, breaks, goes_on, Rises, faults_of, disk_calls}
+use Rattle.cvm_outside.specs.Causes.{Rose}
+use Rattle.cvm_outside.specs.Script.{Call, Who, TheSink, TheDisk, TheShelf, Performs, done as all_done, breaks, goes_on, faults_of, disk_calls}
 use Rattle.run_scripts.specs.Boot.{sectors_needed}
 use Rattle.boot_run.specs.RunEnds.{SeesUser}
 use Rattle.boot_run.specs.Closing.{says}
@@ -168,7 +169,7 @@ module _ (blame : ScriptsBlame) where
       let g = blame got old mid None p w in
       let h = blame script mid new b q w in
       let e : faults_of w mid ≡ faults_of w old = g.same (λ x. cc) in
-      record { rose = λ i. subst (λ (n : ℕ). Rises n (faults_of w new)) e (h.rose i); same = λ ne. h.same ne ∙ e }
+      record { rose = λ i. subst (λ (n : ℕ). Rose n (faults_of w new)) e (h.rose i); same = λ ne. h.same ne ∙ e }
 
   pub of_done : (words : List (List ℕ)) (old new : Outside) (status : Status) (h : WasDone words old new status) → FaultRose h.blamed old new
   of_done words old new status h = counts_both h.got h.script old h.mid new h.blamed h.files h.performs

@@ -11,14 +11,14 @@ pub no_rise : Rose 0 0 → ⊥
 no_rise h = omega arith
 
 pub no_sink : (words : List (List ℕ)) (status : Status) (old new : Outside) → (Rose old.sink.faults new.sink.faults → ⊥) → CausedBy status words old new → status ≢ Sink
-no_sink words status old new none caused e = let k = subst (λ (s : Status). CausedBy s words old new) e caused in none ((k TheSink).rose refl).rose
+no_sink words status old new none caused e = let k = subst (λ (s : Status). CausedBy s words old new) e caused in none ((k TheSink).rose refl)
 
 -- a file is too long where the status is the shelf's
 pub too_long_only : (words : List (List ℕ)) (status : Status) (old new : Outside) → (Rose old.shelf.faults new.shelf.faults → ⊥) → CausedBy status words old new → status ≡ Shelf → IsTooLong words old new
 too_long_only words status old new none caused e = by (subst (λ (s : Status). CausedBy s words old new) e caused)
   where
     by : CausedBy Shelf words old new → IsTooLong words old new
-    by (inl k) = absurd (none ((k TheShelf).rose refl).rose)
+    by (inl k) = absurd (none ((k TheShelf).rose refl))
     by (inr (k, long)) = long
 
 -- and the disk is too small where it is the disk's
@@ -26,5 +26,5 @@ pub too_small_only : (words : List (List ℕ)) (status : Status) (old new : Outs
 too_small_only words status old new none caused e = by (subst (λ (s : Status). CausedBy s words old new) e caused)
   where
     by : CausedBy Disk words old new → IsTooSmall words old
-    by (inl k) = absurd (none ((k TheDisk).rose refl).rose)
+    by (inl k) = absurd (none ((k TheDisk).rose refl))
     by (inr (k, small)) = small
