@@ -13,7 +13,7 @@ KINDS = re.compile(r'\b(abbrev|record|data|unfoldable)\b')
 KERNELS = {'IsTurn', 'Phase', 'data_of', 'kernel_tree', 'report_lines', 'report_of', 'status_of_phase', 'text', 'total_of'}
 # One idea over two formats, faults, hosts, layers, systems or graphs.
 TWO_OF_A_KIND = {'AnswersAreSo', 'EndsWithin', 'GoesOnAt', 'HasWrongField', 'IsInRange', 'NothingElseIsSo', 'answer', 'header_of', 'mark_at',
-                 'number_at', 'pieces', 'spelling', 'ranged', 'Fixed', 'Outer', 'GrowsFresh', 'NeverOut', 'mark_of', 'scope'}
+                 'number_at', 'pieces', 'spelling', 'ranged', 'Fixed', 'Outer', 'mark_of', 'scope'}
 # Samples, programs of cases, and an operator.
 SAMPLES = {'DeskFits', 'IsTooLong', 'IsTooSmall', '◌>>=◌'}
 

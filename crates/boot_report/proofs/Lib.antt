@@ -3,7 +3,7 @@ pub mod PagesByLines
 pub mod UserScripts
 pub mod ReportScripts
 pub mod UsersTell
-pub mod GlobalRows
-pub mod GlobalNumbers
+pub mod GlobalInThreeParts
+pub mod GlobalsInTurn
 pub mod GlobalsGiven
-pub mod RegisterRow
+pub mod RegisterIsPut

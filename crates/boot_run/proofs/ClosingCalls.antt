@@ -54,10 +54,10 @@ use Rattle.boot_run.specs.RunCalls.{run_at, report_script, TellsFrom, ReportCall
 use Rattle.boot_run.specs.RunScript.{AreReads}
 use Rattle.boot_run.specs.Shown.{has_faulted, ended_of}
 use Rattle.boot_run.specs.TurnCalls.{run_around, ReadyAt, Traces}
-use Rattle.boot_run.proofs.TraceRoom.{user_there}
+use Rattle.boot_run.proofs.LoadedTracesHaveRoom.{user_there}
 use Rattle.boot_run.proofs.ReportReads.{true_false, its_told, halting, told_rows, told_globals, user_called, users_called, users_are_those}
 use Rattle.boot_run.proofs.ReadingCalls.{reads_behind}
-use Rattle.boot_run.proofs.ScriptParts.{at}
+use Rattle.boot_run.proofs.ScriptsJoined.{at}
 
 -- which calls a report makes, where nothing is told
 of_if : (b : Bool) (q : ℕ) → AreReads (untold (if b then [] else Read q ∷ []))

@@ -36,9 +36,9 @@ use Rattle.boot_run.specs.Pieces.{Bootable, FirstAt, GoRuns}
 use Rattle.boot_run.specs.RunCalls.{run_at, begin_script, fault_script, turns_script, InTurns, TellsFrom, TurnsCall, GoCalls}
 use Rattle.boot_run.specs.TurnCalls.{Around, run_around, ReadyAt, Broken, TurnsEnd, TurnsRun, KeepsLoad}
 use Rattle.boot_run.proofs.TurnToTurn.{Going, Goes, came_on, goes_on, goes_on_to, end_most, no_end, not_before}
-use Rattle.boot_run.proofs.TurnLoop.{KeepsGoing, machines, turns_end}
+use Rattle.boot_run.proofs.LoopOverTurns.{KeepsGoing, machines, turns_end}
 use Rattle.boot_run.proofs.InTurns.{in_turns}
-use Rattle.boot_run.proofs.ScriptParts.{at}
+use Rattle.boot_run.proofs.ScriptsJoined.{at}
 use Rattle.boot_run.proofs.ScriptsOfTurns.{goes_none}
 use Rattle.boot_run.specs.Shown.{ended_of}
 

@@ -8,7 +8,7 @@ use Rattle.boot_turns.specs.Runs.{Run, Past, state_at, cvm_at}
 use Rattle.boot_turns.specs.StepScript.{step_script, steps_script}
 use Rattle.boot_turns.specs.LoopScripts.{InSteps}
 use Rattle.boot_run.specs.RunCalls.{begin_script, fault_script, turns_script, InTurns}
-use Rattle.boot_run.proofs.ScriptParts.{with_none, three, two, one}
+use Rattle.boot_run.proofs.ScriptsJoined.{with_none, three, two, one}
 
 module _ (r : Run) (p : Past) (k t : ℕ) where
   -- what stands behind the steps, at their end

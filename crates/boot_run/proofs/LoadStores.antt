@@ -20,7 +20,7 @@ use Rattle.boot_run.specs.LoadedPages.{disk_pages, first_pages, rom_pages, user_
 use Rattle.boot_run.specs.LoadScript.{load_script, page_write_script}
 use Rattle.boot_run.specs.RunCalls.{LoadCalls}
 use Rattle.boot_run.proofs.PagesWritten.{page_or, pages_written, with_page, written_is}
-use Rattle.boot_run.proofs.UserPages.{dead_past}
+use Rattle.boot_run.proofs.PagesAtStart.{dead_past}
 
 -- SCRIPTS one after another
 pub stored-append : (a b : List Call) (ss : List (List ℕ)) → sectors_after (a ++ b) ss ≡ sectors_after b (sectors_after a ss)

@@ -10,7 +10,7 @@ use Rattle.boot_turns.specs.LoopScripts.{AreOfRun, SomeMake}
 use Rattle.boot_turns.specs.RowScripts.{of_run}
 use Rattle.boot_turns.proofs.SomeCalls.{untold}
 use Rattle.boot_run.specs.RunScript.{AreReads}
-use Rattle.boot_run.proofs.ScriptParts.{at}
+use Rattle.boot_run.proofs.ScriptsJoined.{at}
 
 -- they are calls of a run
 pub of_run_too : (a : List Call) → AreReads a → AreOfRun a

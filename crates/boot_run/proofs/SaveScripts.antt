@@ -26,9 +26,9 @@ use Rattle.boot_run.specs.SaveCalls.{unless_on, stop_script, stop_by, StopCalls,
 use Rattle.boot_run.specs.TurnCalls.{run_around, ReadyAt, StandsReady}
 use Rattle.boot_run.proofs.TurnToTurn.{running_of}
 use Rattle.boot_run.proofs.ReadingCalls.{of_run_too}
-use Rattle.boot_run.proofs.ScriptParts.{at}
+use Rattle.boot_run.proofs.ScriptsJoined.{at}
 use Rattle.boot_run.proofs.ScriptsOfTurns.{goes_none}
-use Rattle.boot_run.proofs.WholeScripts.{by_disk}
+use Rattle.boot_run.proofs.LoadsAndRuns.{by_disk}
 use Rattle.boot_run.specs.Shown.{ended_of}
 
 -- A RUN THAT HAS ENDED is closed

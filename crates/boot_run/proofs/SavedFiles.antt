@@ -29,7 +29,7 @@ use Rattle.boot_run.specs.SavedFiles.{wanted_of, SavedBootsAreOfRuns}
 use Rattle.boot_run.specs.SavedRuns.{SavedAt}
 use Rattle.boot_run.proofs.SavedTakenUp.{stood_there, steady, stands, can, user_mode, goes_on}
 use Rattle.boot_run.proofs.BootsRejoin.{first_of}
-use Rattle.boot_run.proofs.MemorySize.{stays_whole}
+use Rattle.boot_run.proofs.MemoryKeepsItsSize.{stays_whole}
 
 -- A WORD THAT IS NOT LEFT OUT is none of the layer's own
 neither : (a b : Bool) → (a || b) ≡ false → (a ≡ false) × (b ≡ false)

@@ -45,6 +45,7 @@ use Rattle.boot_turns.specs.RowScripts.{of_run}
 use Rattle.boot_turns.specs.LoopScripts.{InSteps, StepsCall}
 use Rattle.boot_turns.proofs.StepMakes.{in_last, in_same}
 use Rattle.boot_turns.proofs.SomeCalls.{of_both}
+use Rattle.boot_run.specs.AnyScripts.{TurnsScript, untold_step}
 use Rattle.boot_run.specs.Closing.{says, last_steps, report_by, boot_report, trace_report}
 use Rattle.boot_run.specs.LoadEnds.{Kept}
 use Rattle.boot_run.specs.RunCalls.{run_at, begin_script, fault_script, InTurns, TellsFrom, TurnsCall}
@@ -54,7 +55,7 @@ use Rattle.boot_run.specs.TurnParts.{rows_before, rows_after, fault_rows, Moved,
 use Rattle.boot_run.proofs.GoesOnWithRun.{by_view, start_at, starts}
 use Rattle.boot_run.proofs.TurnsPassed.{spread}
 use Rattle.boot_run.proofs.InTurns.{turns_cut, turns_alone, turns_behind}
-use Rattle.boot_run.proofs.ScriptParts.{at, none_put, says_put, some_put, prints_put, same_rows}
+use Rattle.boot_run.proofs.ScriptsJoined.{at, none_put, says_put, some_put, prints_put, same_rows}
 
 -- of a boot that faulted nothing is behind its steps
 no_fault : (r : Run) (p : Past) (t : ℕ) (off : Option ℕ) (st : Status) → (cvm_at r p t).status ≡ st → fault_script Boot r p t off st ≡ []
@@ -384,13 +385,22 @@ module _ {L O D T : Type 0} (text : sink_of.Ghosts O) (told : sectors_of.Ghosts 
   }
 
 -- an answer of another call that blames the same
-pub as_calls : {L O D T R : Type 0} (text : sink_of.Ghosts O) (told : sectors_of.Ghosts D) (r : Kept L) (o o1 : O) (d d1 : D) (budget n : ℕ) (before : Result T RunFault) (result : Result R RunFault) → blame of_run before ≡ blame of_run result →
+as_calls : {L O D T R : Type 0} (text : sink_of.Ghosts O) (told : sectors_of.Ghosts D) (r : Kept L) (o o1 : O) (d d1 : D) (budget n : ℕ) (before : Result T RunFault) (result : Result R RunFault) → blame of_run before ≡ blame of_run result →
     TurnsCall text told r budget (o, d) (o1, d1) n before → TurnsCall text told r budget (o, d) (o1, d1) n result
 as_calls text told r o o1 d d1 budget n before result same calls = record {
   exact = λ u y s late held k t c at lawful ready running turns steps p tells shelf.
       subst (InTurns (run_at (outside_of r.machine.rows (told.size d)) y s r.view turns steps) p k t n (record { shelf = shelf; sink = output text o; disk = drive told d }) (record { shelf = shelf; sink = output text o1; disk = drive told d1 })) same
       (calls.exact u y s late held k t c at lawful ready running turns steps p tells shelf);
   some = λ none. (let q = calls.some none in (q.0, q.1, λ shelf. subst (Performs q.0 (record { shelf = shelf; sink = output text o; disk = drive told d }) (record { shelf = shelf; sink = output text o1; disk = drive told d1 })) same (q.2 shelf)));
+}
+
+pub as_script : {L O D T R : Type 0} (text : sink_of.Ghosts O) (told : sectors_of.Ghosts D) (r : Kept L) (o o1 : O) (d d1 : D) (budget n : ℕ) (before : Result T RunFault) (result : Result R RunFault) → blame of_run before ≡ blame of_run result →
+    TurnsScript text told r budget (o, d) (o1, d1) n before → TurnsScript text told r budget (o, d) (o1, d1) n result
+as_script text told r o o1 d d1 budget n before result same calls = record {
+  boots = as_calls text told r o o1 d d1 budget n before result same calls.boots;
+  untold = λ s k t traced ended fault comes on stands shelf.
+      subst (InSteps (untold_step (outside_of r.machine.rows (told.size d)) s t) n (record { shelf = shelf; sink = output text o; disk = drive told d }) (record { shelf = shelf; sink = output text o1; disk = drive told d1 })) same
+      (calls.untold s k t traced ended fault comes on stands shelf);
 }
 
 ended_calls : {L O D T : Type 0} (text : sink_of.Ghosts O) (told : sectors_of.Ghosts D) (r : Kept L) (o : O) (d : D) (budget n : ℕ) (v : T) (e : Next) → r.ended ≡ Some e → TurnsCall {T = T} text told r budget (o, d) (o, d) n (Ok v)

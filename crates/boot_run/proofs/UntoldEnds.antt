@@ -29,9 +29,9 @@ use Rattle.boot_run.specs.Pieces.{end_of_fault}
 use Rattle.boot_run.specs.RunCalls.{run_at, of_end, CallsAreMade, RunEndsBy, CloseCalls}
 use Rattle.boot_run.specs.Shown.{end_of_next, fault_of_power, has_faulted}
 use Rattle.boot_run.specs.TurnCalls.{run_around}
-use Rattle.boot_run.proofs.EndScripts.{blames_so}
+use Rattle.boot_run.proofs.RunsAreClosed.{blames_so}
 use Rattle.boot_run.proofs.TurnToTurn.{none_within}
-use Rattle.boot_run.proofs.ScriptParts.{at}
+use Rattle.boot_run.proofs.ScriptsJoined.{at}
 use Rattle.boot_run.proofs.UntoldTurns.{no_end_before, end_there}
 
 -- HOW A RUN ENDS by its power word

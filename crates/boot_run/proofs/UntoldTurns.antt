@@ -34,7 +34,7 @@ use Rattle.boot_run.specs.TurnParts.{rows_before}
 use Rattle.boot_run.proofs.AnyRunCalls.{AnyGoing, is_on}
 use Rattle.boot_run.proofs.TurnToTurn.{no_end, none_within}
 use Rattle.boot_run.proofs.GoScripts.{no_sooner}
-use Rattle.boot_run.proofs.ScriptParts.{at, none_put, some_put}
+use Rattle.boot_run.proofs.ScriptsJoined.{at, none_put, some_put}
 use Rattle.boot_run.proofs.TextsBehind.{each_text, last_text}
 
 gone : (q : Option Tracer) → q ≡ None → IsSome q → ⊥

@@ -27,7 +27,7 @@ use Rattle.boot_run.specs.TurnCalls.{Around, run_around, KeepsLoad}
 use Rattle.boot_run.specs.Pieces.{Gone, GoRuns}
 use Rattle.boot_run.proofs.SavedTakenUp.{complete_there, on_of}
 use Rattle.boot_run.proofs.TurnToTurn.{running_of}
-use Rattle.boot_run.proofs.TurnLoop.{machines}
+use Rattle.boot_run.proofs.LoopOverTurns.{machines}
 
 -- a machine that runs a user is on
 on_at : (s : Status) (z : State) → s ≡ Running → Rests s z → z.off ≡ None

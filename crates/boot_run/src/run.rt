@@ -10,7 +10,7 @@ ghost use Rattle.boot_turns.specs.LoopScripts.{StepsCall};
 ghost use Rattle.boot_run.specs.LoadEnds.{HasDiskRoom, LoadFails, pages_needed, rom_needed};
 ghost use Rattle.boot_run.specs.Loaded.{IsLoaded, boot_load, own_load, rom_load};
 ghost use Rattle.boot_run.specs.AnyScripts.{TurnsScript};
-ghost use Rattle.boot_run.specs.RunCalls.{LoadCalls, ReportCalls, TurnsCall};
+ghost use Rattle.boot_run.specs.RunCalls.{LoadCalls, ReportCalls};
 ghost use Rattle.boot_run.specs.Calls.{MakesTurns, Proceeds, ProceedsAnyhow};
 ghost use Rattle.boot_run.specs.OneTurn.{CanMake, TurnsMake, ReportLeaves, TurnsSay, as_turns};
 ghost use Rattle.boot_run.specs.Pieces.{AreBoots};
@@ -95,7 +95,7 @@ impl<L: Layer + Drop> Run<L> {
     /// # Errors
     ///
     /// `NoSuchUser`, where the user of a trace is none of the users; else `SmallDisk`, where the disk has fewer sectors than the
-    /// users' pages take; else `Memory`, for want of memory; else `Disk`, only where the disk's count of faults rose. The script breaks off then: the
+    /// users' pages take; else `Memory`, for want of memory; else `Disk`, where the disk counted one fault more. The script breaks off then: the
     /// sectors before the one at which the disk failed are written, that one may hold anything, and the others are as before.
     pub fn load<D: Sectors>(
         alloc: Global,
@@ -335,8 +335,8 @@ impl<L: Layer + Drop> Run<L> {
     ///
     /// # Errors
     ///
-    /// `StepLimit`, where the budget is spent and the last turn isn't complete; `Disk` and `Sink`, only where the count of faults of that
-    /// object rose. After a fault each call answers it again, and touches nothing.
+    /// `StepLimit`, where the budget is spent and the last turn isn't complete; `Disk` and `Sink`, where that object counted one fault
+    /// more (but for a fault that was kept). After a fault each call answers it again, and touches nothing.
     pub fn turns<D: Sectors, O: Sink>(
         &mut self,
         most: u32,
@@ -378,7 +378,7 @@ impl<L: Layer + Drop> Run<L> {
     ) -> Result<Turn, RunFault>
         requires can { CanMake 1 self.old (D.size disk.old) budget.old }
         ensures says { TurnsSay D.size D.sectors 1 self.old disk.old budget.old out.old self.new disk.new budget.new out.new (as_turns result) }
-        ensures script { TurnsCall O.Sink D.Sectors self.old budget.old (out.old, disk.old) (out.new, disk.new) (budget.old - budget.new) result }
+        ensures script { TurnsScript O.Sink D.Sectors self.old budget.old (out.old, disk.old) (out.new, disk.new) (budget.old - budget.new) result }
     {
         let (_, turn) = self.turns(1, budget, disk, out)?;
         Ok(turn)

@@ -7,7 +7,7 @@ use Rattle.boot_turns.specs.RunMachines.{MachinesRun, RunsStayTyped}
 use Rattle.boot_turns.proofs.LinesOfTurns.{complete_small}
 use Rattle.boot_turns.proofs.MoreUnits.{one_cvm}
 use Rattle.boot_turns.proofs.TurnGoesOn.{given}
-use Rattle.boot_turns.proofs.TurnRows.{rows_grow, user_stays}
+use Rattle.boot_turns.proofs.TurnRowsArePut.{rows_grow, user_stays}
 use Rattle.boot_turns.proofs.NextTurn.{finished, unfinished, shown}
 use Rattle.boot_turns.proofs.WholeRuns.{forward, goes_on, two_faults, ahead, defined, is_over, beyond, torn}
 

@@ -33,8 +33,8 @@ use Rattle.boot_turns.specs.Runs.{Past}
 use Rattle.boot_turns.specs.StepScript.{prints, page_of, is_copy_to, entry_reads, row_behind, rows_script}
 use Rattle.boot_turns.specs.RowScripts.{ArePages, copied_script, copy_script, words_copied, ended_script, returned_script, followed_script}
 use Rattle.boot_turns.specs.LoopScripts.{traced_run}
-use Rattle.boot_turns.proofs.CopiedRows.{copy_rows, rows_next, puts_length}
-use Rattle.boot_turns.proofs.StepRows.{copy_is, first_rows, copied_length}
+use Rattle.boot_turns.proofs.CopiedRowsArePut.{copy_rows, rows_next, puts_length}
+use Rattle.boot_turns.proofs.StepRowsArePut.{copy_is, first_rows, copied_length}
 use Rattle.boot_turns.proofs.JournalRows.{nil_back, put_some}
 
 -- scripts of numbers that agree

@@ -18,7 +18,7 @@ use Rattle.c0_meaning.specs.TypedState.{StoreTyping, types_of, Fits, AllFit, sto
 use Rattle.c0_meaning.specs.Execution.{Outcome, Done, Failed, NotYet, call_first}
 use Rattle.c0_meaning.specs.RunLaws.{FirstIsTyped, CallsAreSafe, DispatchesAreSafe, CallsAnswer, AnswersAnInt, DispatchesAnswer}
 use Rattle.c0_tree.specs.declared.primitive.Program.TheVariants.{Kernel}
-use Rattle.c0_meaning.proofs.FirstFunction.{has_first}
+use Rattle.c0_meaning.proofs.RunsHaveAFirst.{has_first}
 use Rattle.c0_meaning.proofs.TypesHaveWords.{zeros_fit}
 use Rattle.c0_meaning.proofs.SafeRuns.{first_call_safe, first_call_answers}
 

@@ -1,7 +1,7 @@
 -- The least of a list of faults: it is what is kept of the list, whatever the order in which the list is met.
 use Rattle.std.proofs.Common.{◌≡◌, ◌↔◌, ◌⊎◌, inl, inr, Bool, true, false, if◌then◌else◌, List, [], ◌∷◌, ◌++◌, Option, Some, None, refl, sym, ap, ◌∙◌, subst}
 use Rattle.c0_meaning.specs.Fault.{Fault, comes_before, FaultStands, IsLeast, kept, kept_all, LeastIsThere, KeptIsLeast, MeetingIsFree, MeetingJoins}
-use Rattle.c0_meaning.proofs.FaultOrder.{comes_onward, not_both_come, one_fault}
+use Rattle.c0_meaning.proofs.FaultOrderIsTotal.{comes_onward, not_both_come, one_fault}
 
 apart : {A : Type 0} → true ≡ false → A
 apart e = absurd (cc)

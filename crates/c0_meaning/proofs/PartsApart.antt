@@ -14,7 +14,7 @@ use Rattle.c0_meaning.specs.Addresses.{nth_type, words_to, words_to_part, PartsA
 use Rattle.c0_meaning.proofs.StructHolding.{holds_as_tested}
 use Rattle.c0_meaning.proofs.StructWords.{fields_words}
 use Rattle.c0_meaning.proofs.OpenedTypesHaveWords.{well_formed_loose}
-use Rattle.c0_meaning.proofs.ValueParts.{leads_on}
+use Rattle.c0_meaning.proofs.PartsFit.{leads_on}
 
 -- one element and those before it are among all
 rows : (i n w : ℕ) → i < n → i * w + w ≤ n * w

@@ -30,7 +30,7 @@ use Rattle.c0_meaning.specs.State.{C0State, variables_of, read}
 use Rattle.c0_meaning.specs.Operators.{Failure, Bounds, faulted, stuck, on_unary, on_binary, divided}
 use Rattle.c0_meaning.specs.Evaluation.{Costed, costs, at_no_cost, paying, ◌>>=◌, bool_of, variable_location, pointed_to, element_of, truth, both_sides, load_from, indexed, field_of, pointed, value_of, place_of, values_of}
 use Rattle.c0_meaning.specs.TypedState.{StoreTyping, types_of, PathLeads, LeadsFrom, PointsTo, Fits, AllFit, AreParts}
-use Rattle.c0_meaning.proofs.ValueParts.{Has, get_parts, leads_from_on, points_on, length_fits}
+use Rattle.c0_meaning.proofs.PartsFit.{Has, get_parts, leads_from_on, points_on, length_fits}
 use Rattle.c0_meaning.proofs.OperatorsInRange.{small, int_of_fits, remainder_fits}
 
 -- an evaluation comes to what a rule says of it, or to a fault of the kernel

@@ -17,7 +17,7 @@ use Rattle.c0_meaning.specs.Execution.{Outcome, Done, Failed, NotYet, call_first
 use Rattle.c0_meaning.specs.TypedState.{StoreTyping, types_of, AllFit, store_typing, IsScalar, AnswersFit, RunIsSafe}
 use Rattle.c0_meaning.specs.UserProgram.{user_primitives, trap, is_main, Seen, up_to, outcome_seen}
 use Rattle.c0_meaning.specs.RunLaws.{IsNotStuck, ProgramsAreSafe}
-use Rattle.c0_meaning.proofs.FirstFunction.{position_found}
+use Rattle.c0_meaning.proofs.RunsHaveAFirst.{position_found}
 use Rattle.c0_meaning.proofs.CallsAreSafe.{first_is_typed, same_row}
 use Rattle.c0_meaning.proofs.SafeRuns.{first_call_safe}
 

@@ -32,7 +32,7 @@ use Rattle.c0_meaning.specs.Running.{Target, into, outward, Work, act_on, finish
 use Rattle.c0_meaning.specs.Execution.{Outcome, Failed, NotYet, then_run, execute, call_first}
 use Rattle.c0_meaning.specs.TypedState.{StoreTyping, types_of, Fits, AllFit, variable_types, IsTypedFrame, store_typing, IsTypedWith, AreDeclared, AnswersFit, IsSafeAt, RunIsSafe, AnswersTyped}
 use Rattle.c0_meaning.proofs.TypesHaveWords.{zero_fits, zeros_fit}
-use Rattle.c0_meaning.proofs.ValueParts.{fits_more, joined_fit}
+use Rattle.c0_meaning.proofs.PartsFit.{fits_more, joined_fit}
 use Rattle.c0_meaning.proofs.OperatorsInRange.{int_of_fits}
 use Rattle.c0_meaning.proofs.SafeExpressions.{Good, SafeState, IsAt, given_good, place_good, values_good, bool_good}
 use Rattle.c0_meaning.proofs.SafeStates.{RightValue, RightPlace, RightStatement, RightStatements, first_right, Calls, a_function, a_primitive, callee, callee_is, no_layout, scalar_everywhere, scalars_everywhere, right_function, variables_split, params_types, env_in, scene, written, objects_count, allocated}

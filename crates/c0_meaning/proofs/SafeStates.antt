@@ -31,7 +31,7 @@ use Rattle.c0_meaning.proofs.WellTypedUnits.{units_are_faultless}
 use Rattle.c0_meaning.specs.Value.{Region, globals, heap, locals, Value, int, bool, null, at, group, Values, empty, part, count, part_count, with_part, value_with}
 use Rattle.c0_meaning.specs.State.{Frame, write}
 use Rattle.c0_meaning.specs.TypedState.{StoreTyping, types_of, Fits, AllFit, AreParts, PointsTo, variable_types, IsTypedFrame, store_typing, IsTypedWith}
-use Rattle.c0_meaning.proofs.ValueParts.{put_parts, parts_more, joined_fit}
+use Rattle.c0_meaning.proofs.PartsFit.{put_parts, parts_more, joined_fit}
 use Rattle.c0_meaning.proofs.SearchByName.{found_there}
 use Rattle.c0_meaning.proofs.SafeExpressions.{SafeState, Stands}
 

@@ -112,15 +112,3 @@ fields_of (Some found) = found.1.fields
 -- the field of a name in the struct of a name, with its number
 abbrev pub field_named : Env → List ℕ → List ℕ → Option (ℕ × Typed)
 field_named env owner text = first_named (λ v. v.text) text 0 (fields_of (first_named (λ s. s.text) owner 0 env.structs))
-
--- the struct of a name among declared structs, with its number
-abbrev pub struct_named : List CStruct → List ℕ → Option (ℕ × CStruct)
-struct_named structs text = first_named (λ s. s.name.text) text 0 structs
-
--- the fields of the struct of a name, as declared: a struct that isn't defined has none
-abbrev pub fields_named : List CStruct → List ℕ → List CDecl
-fields_named structs text = declared_fields (struct_named structs text)
-  where
-    declared_fields : Option (ℕ × CStruct) → List CDecl
-    declared_fields None = []
-    declared_fields (Some found) = found.1.fields

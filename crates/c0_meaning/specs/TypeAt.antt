@@ -5,14 +5,13 @@ use Rattle.c0_tree.specs.declared.tree.UnaryOp.TheVariants.{Negate, Not}
 use Rattle.c0_tree.specs.declared.tree.BinaryOp.{BinaryOp}
 use Rattle.c0_tree.specs.declared.tree.BinaryOp.TheVariants.{Add, Sub, Mul, Div, Rem, Lt, Le, Gt, Ge, Eq, Ne, And, Or}
 use Rattle.c0_tree.specs.Tree.{CExpr, num, true_, false_, null, var, field, arrow, index, deref, address, unary, binary, CFunction, CUnit}
-use Rattle.c0_tree.specs.Primitives.{CPrimitive}
 use Rattle.c0_tree.specs.View.{type_view}
 use Rattle.c0_meaning.specs.Ty.{Ty, int, bool, pointer, named, array}
 use Rattle.c0_meaning.specs.Env.{Env, Shape, Typed, env_of}
 use Rattle.c0_meaning.specs.Words.{shape_fields}
 use Rattle.c0_meaning.specs.Expression.{is_lvalue, target}
 use Rattle.c0_meaning.specs.Limits.{locals_of}
-use Rattle.c0_meaning.specs.Numbered.{variable_at, HasNumberedType}
+use Rattle.c0_meaning.specs.Numbered.{variable_at}
 use Rattle.c0_meaning.specs.Resolved.{IsResolved}
 use Rattle.c0_meaning.specs.declared.form.Found.{Found}
 use Rattle.c0_meaning.specs.declared.form.Found.TheVariants.{Nothing, Int, Bool as Boolean, To, Of}
@@ -94,8 +93,3 @@ IsFoundResolved structs Int = Unit {0}
 IsFoundResolved structs Boolean = Unit {0}
 IsFoundResolved structs (To t) = IsResolved structs (type_view t.now)
 IsFoundResolved structs (Of t) = IsResolved structs (type_view t.now)
-
--- a law: what is typed by numbers has that type
-abbrev pub TypesAreAtHand : Type 0
-TypesAreAtHand = (primitives : List CPrimitive) (u : CUnit) (f : CFunction) (e : CExpr) (t : Ty)
-    → HasNumberedType (env_of primitives u (f.params ++ locals_of f.body)) e t → type_at (env_in u f) e ≡ Some t

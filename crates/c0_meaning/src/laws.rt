@@ -9,7 +9,6 @@ ghost use Rattle.c0_meaning.specs.Rules.{StatementsAreFaultless, TestedIsFaultle
 ghost use Rattle.c0_meaning.specs.Sizes.{UnitsAreSized};
 ghost use Rattle.c0_meaning.specs.Stable.{ResolvingIsStable};
 ghost use Rattle.c0_meaning.specs.Ty.{TypesEqualAsWritten};
-ghost use Rattle.c0_meaning.specs.TypeAt.{TypesAreAtHand};
 ghost use Rattle.c0_meaning.specs.Typed.{ProgramsAreFaultless, UnitsAreFaultless};
 ghost use Rattle.c0_meaning.specs.Unit.{AllowedAsTested, FaultlessIsChecked};
 ghost use Rattle.c0_meaning.specs.Words.{HoldsAsTested, WordsAreThose};
@@ -106,9 +105,4 @@ pub fn written_out_types_have_their_words()
 /// In a well formed unit each declared type has few words, and its names are resolved.
 pub fn well_formed_units_are_sized()
     ensures { UnitsAreSized }
-{}
-
-/// An expression that is typed by numbers has the type that is found by numbers.
-pub fn types_are_at_hand()
-    ensures { TypesAreAtHand }
 {}

@@ -10,7 +10,7 @@ use Rattle.c0_meaning.specs.Stable.{ResolvingIsStable}
 use Rattle.c0_meaning.specs.Unit.{unit_faults, program_faults, FaultlessIsChecked, IsCheckedAs}
 use Rattle.c0_types.specs.Answer.{AnswersLeastAs}
 use Rattle.c0_types.specs.Source.{read_unit, checked_as, source_faults_as, asm_faults}
-use Rattle.c0_types.proofs.UnitPlain.{read_plain, read_allowed}
+use Rattle.c0_types.proofs.FaultlessIsPlain.{read_plain, read_allowed}
 
 left_empty : (fs gs : List Fault) → fs ++ gs ≡ [] → fs ≡ []
 left_empty [] gs h = refl

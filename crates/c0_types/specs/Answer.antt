@@ -75,8 +75,5 @@ abbrev pub FaultAnswersAs : Program → CUnit → TypeFault → Type 0
 FaultAnswersAs program u f = AnswersLeastAs program (type_fault_view f) u
 
 -- of a kernel's source
-abbrev pub AnswersLeast : Option spec.Fault → CUnit → Type 0
-AnswersLeast = AnswersLeastAs Kernel
-
 abbrev pub FaultAnswers : CUnit → TypeFault → Type 0
 FaultAnswers = FaultAnswersAs Kernel

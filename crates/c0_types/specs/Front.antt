@@ -61,9 +61,6 @@ IsAnswerAs program source (Err f) = IsFirstFaultAs program source f
 abbrev pub IsUnitOf : List ℕ → CUnit → Type 0
 IsUnitOf = IsUnitAs Kernel
 
-abbrev pub IsMistyped : List ℕ → TypeFault → Type 0
-IsMistyped = IsMistypedAs Kernel
-
 abbrev pub IsSourceFaultOf : List ℕ → SourceFault → Type 0
 IsSourceFaultOf = IsFaultAs Kernel
 

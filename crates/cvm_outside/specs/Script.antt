@@ -67,7 +67,7 @@ CallDone (Stored name bytes) old new =
     ((n : List ℕ) → n ≢ name → new.shelf.file n ≡ old.shelf.file n) × (new.shelf.file name ≡ retold (old.shelf.file name) bytes)
     × (new.shelf.faults ≡ old.shelf.faults) × (new ≡ record old { shelf = record new.shelf { taken = old.shelf.taken } }) × ShelfCalled old.shelf new.shelf
 
--- what one leaves that failed: a part of the text, a sector or a file that is torn; and its object counts a fault. A file that is surely given is got
+-- what one leaves that failed: a part of the text, a sector or a file that is torn; and its object counts one fault more. A file that is surely given is got
 abbrev pub CallFailed : Call → (old new : Outside) → Type 0
 CallFailed (Printed told) old new =
     IfSome told (λ text. AppendsPart old.sink.text new.sink.text text) × Rose old.sink.faults new.sink.faults × (new ≡ record old { sink = new.sink })

@@ -58,7 +58,7 @@ ScriptsCountFiles = (a : List Call) (old new : Outside) (blamed : Option Who) �
 abbrev pub ScriptsStore : Type 0
 ScriptsStore = (a : List Call) (old new : Outside) → Performs a old new None → new.disk.sectors ≡ option_map (sectors_after a) old.disk.sectors
 
--- the count of faults of whom an answer blames rose, and that of each other object is as before
+-- whom an answer blames counted one fault more, and the count of each other object is as before
 pub record Blamed (old new : Outside) (blamed : Option Who) (whom : Who) : Type 0 where
   pub rose : blamed ≡ Some whom → Rose (faults_of whom old) (faults_of whom new)
   pub same : (blamed ≡ Some whom → ⊥) → faults_of whom new ≡ faults_of whom old

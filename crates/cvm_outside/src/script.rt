@@ -24,7 +24,7 @@ pub fn scripts_count_files()
     ensures { ScriptsCountFiles }
 {}
 
-/// A law: the count of faults of the object that is blamed rose, and no other's.
+/// A law: the object that is blamed counted one fault more, and no other did.
 pub fn scripts_blame()
     ensures { ScriptsBlame }
 {}

@@ -41,7 +41,7 @@ pub trait Sectors {
     ///
     /// # Errors
     ///
-    /// `Failed`, only where the count of faults rose.
+    /// `Failed`, exactly where one fault more is counted.
     fn read(&mut self, i: u32, into: &mut [u32; 1024]) -> Result<(), DiskFault>
         requires { i < size self.old }
         ensures size { size self.new ≡ size self.old }
@@ -57,7 +57,7 @@ pub trait Sectors {
     ///
     /// # Errors
     ///
-    /// `Failed`, only where the count of faults rose.
+    /// `Failed`, exactly where one fault more is counted.
     fn write(&mut self, i: u32, from: &[u32; 1024]) -> Result<(), DiskFault>
         requires { i < size self.old }
         ensures size { size self.new ≡ size self.old }

@@ -50,7 +50,7 @@ pub trait Shelf {
     ///
     /// # Errors
     ///
-    /// `Failed` only where the count of faults rose and the name is not surely given, `TooLong`
+    /// `Failed` only where one fault more is counted and the name is not surely given, `TooLong`
     /// exactly where 67,108,865 bytes were taken, and want of memory.
     fn get(&mut self, alloc: Global, name: &str) -> Result<Vec<u8>, ShelfFault>
         ensures files { (n : List ℕ) → file self.new n ≡ file self.old n }
@@ -70,7 +70,7 @@ pub trait Shelf {
     ///
     /// # Errors
     ///
-    /// `Failed`, only where the count of faults rose.
+    /// `Failed`, exactly where one fault more is counted.
     fn put(&mut self, name: &str, bytes: &[u8]) -> Result<(), ShelfFault>
         ensures others { (n : List ℕ) → n ≢ name.now → file self.new n ≡ file self.old n }
         ensures bytes { OnOk result (file self.new name.now ≡ retold (file self.old name.now) bytes.now) }

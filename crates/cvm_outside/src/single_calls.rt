@@ -10,7 +10,7 @@ use crate::sink::{Sink, SinkFault};
 ///
 /// # Errors
 ///
-/// A fault of the sink, only where its count of faults rose.
+/// A fault of the sink, exactly where it counted one more.
 pub fn put<O: Sink>(text: &[u8], out: &mut O) -> Result<(), SinkFault>
     ensures { Prints O.Sink out.old out.new text.now result }
 {
@@ -21,7 +21,7 @@ pub fn put<O: Sink>(text: &[u8], out: &mut O) -> Result<(), SinkFault>
 ///
 /// # Errors
 ///
-/// A fault of the disk, only where its count of faults rose. `into` may then hold anything.
+/// A fault of the disk, exactly where it counted one more. `into` may then hold anything.
 pub fn read<D: Sectors>(sector: u32, into: &mut [u32; 1024], disk: &mut D) -> Result<(), DiskFault>
     requires { sector < D.size disk.old }
     ensures asks { Asks D.Sectors disk.old disk.new (Read sector ∷ []) result }
@@ -35,7 +35,7 @@ pub fn read<D: Sectors>(sector: u32, into: &mut [u32; 1024], disk: &mut D) -> Re
 ///
 /// # Errors
 ///
-/// A fault of the disk, only where its count of faults rose. The sector may then hold anything.
+/// A fault of the disk, exactly where it counted one more. The sector may then hold anything.
 pub fn write<D: Sectors>(sector: u32, from: &[u32; 1024], disk: &mut D) -> Result<(), DiskFault>
     requires { sector < D.size disk.old }
     ensures { Asks D.Sectors disk.old disk.new (Wrote sector from.now ∷ []) result }

@@ -26,7 +26,7 @@ pub trait Sink {
     ///
     /// # Errors
     ///
-    /// `Failed`, only where the count of faults rose.
+    /// `Failed`, exactly where one fault more is counted.
     fn put(&mut self, bytes: &[u8]) -> Result<(), SinkFault>
         ensures whole { OnOk result (text self.new ≡ append_known (text self.old) bytes.now) }
         ensures part { OnErr result (AppendsPart (text self.old) (text self.new) bytes.now) }

@@ -26,7 +26,7 @@ mod ResumedCalls
 mod SaveWords
 mod SourceStops
 mod SystemCalls
-mod StackOut
+mod NeverOutPrintsNone
 mod ProgramJournals
 mod StackTexts
 mod OneNumberSpelled

@@ -7,7 +7,7 @@ use cvm_outside::{Shelf, Sink};
 use run_scripts::Status;
 
 /// Puts what a stage made under this name, or says why the stage stopped.
-pub fn put_made<S: Shelf, O: Sink>(
+pub(crate) fn put_made<S: Shelf, O: Sink>(
     made: Result<Vec<u8>, Stop>,
     name: &str,
     shelf: &mut S,

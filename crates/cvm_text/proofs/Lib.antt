@@ -1,7 +1,7 @@
 pub mod ReadIsSpelled
 pub mod FirstByteCuts
 pub mod FrontsOfDigits
-pub mod FirstLine
-pub mod HexDigits
+pub mod FirstLineIsCut
+pub mod HexDigitsByIndex
 pub mod SpelledIsDecimal
-pub mod WholeNumbers
+pub mod WholeWordsSpellNumbers

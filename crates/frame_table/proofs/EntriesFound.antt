@@ -14,7 +14,7 @@ use Rattle.page_model.specs.TableLayout.{TableLayout}
 use Rattle.frame_table.specs.Code.{walk_page_table_code, advance_clock_code}
 use Rattle.frame_table.specs.View.{Sited, Ported, Found, WordWritten}
 use Rattle.frame_table.specs.Laws.{FindsEntry, next_index, HandMovesOn}
-use Rattle.frame_table.proofs.TableWords.{const_is, small_is, put_same, put_other}
+use Rattle.frame_table.proofs.WordsInOnePlace.{const_is, small_is, put_same, put_other}
 
 module _ (w : World) (f : Sound w) where
   pub finds : FindsEntry w

@@ -7,14 +7,14 @@ use Rattle.mips_table.specs.Machine.{in_system, pte_address, is_valid, is_protec
 use Rattle.mips_table.specs.Machine.{State, located}
 use Rattle.layer_map.specs.Map.{Map, MapInRange, layer_words, code_at, globals_at, heap_at, stack_at, tables_at, frame_table_at, zero_frame_at, memory_words}
 use Rattle.page_model.specs.Paging.{Valid, Protected, MapsTo, IsAccessible}
-use Rattle.layer_contract.proofs.MapBounds.{PartsApart}
+use Rattle.layer_contract.proofs.MapPartsBounded.{PartsApart}
 use Rattle.cvm_model.specs.Kernel.{Core}
 use Rattle.cvm_model.specs.Primitives.{no_flat, user_of, pages_of}
 use Rattle.cvm_model.specs.Cvm.{Running}
 use Rattle.cvm_model.specs.Paged.{paged_of}
 use Rattle.cvm_model.specs.Stands.{Site, UserFits, RunningRelation, RunsUser}
 use Rattle.layer_contract.specs.Layer.{page_at}
-use Rattle.layer_contract.proofs.MapBounds.{apart_of}
+use Rattle.layer_contract.proofs.MapPartsBounded.{apart_of}
 use Rattle.layer_contract.proofs.StoresInPages.{names_own}
 
 -- a page in a user's own terms

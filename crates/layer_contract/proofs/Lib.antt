@@ -1,10 +1,10 @@
-pub mod CommandDue
-pub mod MapBounds
-pub mod ResetState
-pub mod LoadedState
+pub mod OnlyWritesBeginCommands
+pub mod MapPartsBounded
+pub mod ResetStandsForStart
+pub mod LoadedTakesReset
 pub mod LoadedStarts
 pub mod LayerTakesOver
-pub mod UserState
+pub mod RestoredIsInUserMode
 pub mod RelationExists
 pub mod FirstCall
 pub mod StoresInPages
@@ -16,7 +16,7 @@ pub mod UserStepStages
 pub mod TurnBegins
 pub mod InterruptedUser
 pub mod PageAskedFor
-pub mod SampleMachine
-pub mod SpreadPages
-pub mod SpreadState
-pub mod SpreadSystem
+pub mod SampleOverwritesItself
+pub mod SpreadPagesStand
+pub mod SpreadStateStands
+pub mod SpreadSystemStands

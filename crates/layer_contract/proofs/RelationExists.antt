@@ -18,9 +18,9 @@ use Rattle.layer_contract.specs.Layer.{Linked, Starts, AfterReset, for_user}
 use Rattle.layer_contract.specs.Follows.{site_of, loaded, SystemFits}
 use Rattle.mips_table.specs.Samples.{overflowing}
 use Rattle.layer_contract.specs.Samples.{plain_word, plain_layer, plain_map, plain_system, AStateStands}
-use Rattle.layer_contract.proofs.UserState.{user_stands}
-use Rattle.layer_contract.proofs.ResetState.{reset_stands}
-use Rattle.layer_contract.proofs.LoadedState.{index_word, loaded_resets}
+use Rattle.layer_contract.proofs.RestoredIsInUserMode.{user_stands}
+use Rattle.layer_contract.proofs.ResetStandsForStart.{reset_stands}
+use Rattle.layer_contract.proofs.LoadedTakesReset.{index_word, loaded_resets}
 
 pub plain_length : (m : Map) (sizes : List ℕ) → length (plain_layer m sizes) ≡ layer_words
 unfolding plain_layer

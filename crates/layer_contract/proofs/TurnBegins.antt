@@ -22,7 +22,7 @@ use Rattle.layer_contract.specs.Follows.{BeginsAs}
 use Rattle.layer_contract.specs.Users.{UserStepPremises, TakesFault, StepSpares, StepFollows, UserStepsLinked, UserStepsOrFaults}
 use Rattle.layer_contract.proofs.AddressesStand.{own, Known, Sizes, sizes_of}
 use Rattle.layer_contract.proofs.UntrappedSteps.{with_current, stands_after, running}
-use Rattle.layer_contract.proofs.CommandDue.{none_is_due}
+use Rattle.layer_contract.proofs.OnlyWritesBeginCommands.{none_is_due}
 use Rattle.layer_contract.proofs.UserStepStages.{Good, Refused, follows}
 
 left : (a b : Bool) → (a && b) ≡ true → a ≡ true

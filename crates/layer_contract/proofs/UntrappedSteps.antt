@@ -17,7 +17,7 @@ use Rattle.cvm_model.specs.Primitives.{no_flat, user_of, with_user, pages_of}
 use Rattle.cvm_model.specs.Cvm.{Running}
 use Rattle.cvm_model.specs.Paged.{paged_of, pages_by}
 use Rattle.cvm_model.specs.Stands.{Site, address_of, UserFits, block_cpu, runs_user, RunningRelation}
-use Rattle.layer_contract.proofs.ResetState.{flat_length}
+use Rattle.layer_contract.proofs.ResetStandsForStart.{flat_length}
 use Rattle.layer_contract.proofs.AddressesStand.{own, Known, Sizes, sizes_of, user_fits}
 
 -- the state of the CVM with the current user's machine replaced

@@ -52,7 +52,7 @@ use Rattle.boot_run.proofs.AbstractRuns.{turns_up_to}
 use Rattle.boot_run.proofs.SavedTakenUp.{on_of}
 use Rattle.boot_run.proofs.TurnToTurn.{no_end}
 use Rattle.boot_run.proofs.GoScripts.{no_sooner}
-use Rattle.boot_run.proofs.TurnLoop.{machines}
+use Rattle.boot_run.proofs.LoopOverTurns.{machines}
 use Rattle.boot_run.proofs.BootsRejoin.{first_of}
 use Rattle.machine_save.specs.Resume.{ResumesFile}
 use Rattle.machine_save.specs.ResumeCalls.{boot_over, RestPerformed, FileRuns, ResumeScript}

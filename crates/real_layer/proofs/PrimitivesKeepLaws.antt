@@ -28,7 +28,7 @@ use Rattle.cvm_primitives.specs.Calls.{CallEntered, CallLeft, call_steps, Memory
 use Rattle.cvm_primitives.specs.View.{Fresh}
 use Rattle.real_layer.specs.Image.{returning, routine, routine_at, image_site, IsMade}
 use Rattle.real_layer.specs.Runs.{block_world}
-use Rattle.real_layer.specs.Laws.{NameZeros, GrowsFresh}
+use Rattle.real_layer.specs.Laws.{NameZeros, GrowthIsFresh}
 use Rattle.real_layer.proofs.StandsByFunctions.{Shown, Order, order_of, words_of, behind, word_is, user_fits, pages_agree, shown}
 use Rattle.real_layer.proofs.PartsPlaced.{Listed, listed, linked_length}
 use Rattle.real_layer.proofs.RunsBetweenEntries.{contents}
@@ -315,7 +315,7 @@ module _ (m : Map) (sizes code : List ℕ) (made : IsMade m sizes code) where
   primitives z x longest s c call busy p = answers z x longest s c busy p.at.stands p.at.inside call p
 
   -- and growth is by the zero frame
-  pub grows : Routines → GrowsFresh y
+  pub grows : Routines → GrowthIsFresh y
   grows z x longest s c u n busy p good =
       let b = resizes z x longest s c busy p.at.stands p.at.inside u n p in
       let size = (b.0.comes.way.frames b.0.comes.steps (omega arith)).size in

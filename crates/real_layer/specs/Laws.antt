@@ -38,15 +38,15 @@ abbrev pub NameZeros : Map → (u old new : ℕ) → State → Type 0
 NameZeros m u old new t = (i : ℕ) → old ≤ i → i < new → MapsTo ((paged_of m t).entry ((u - 1) * m.params.pages + i)) (page_layout m).zeros
 
 -- GROWTH: a good vm_resize comes back with the pages by which the memory grew as the zero frame, as its code's law has them
-abbrev pub GrowsFresh : Site → Type 0
-GrowsFresh y = (x : Environment) (longest : ℕ) (s : State) (c : Core) (u n : ℤ) → BusyWithin x longest → PrimitiveCalled x y c (VmResize u n) s →
+abbrev pub GrowthIsFresh : Site → Type 0
+GrowthIsFresh y = (x : Environment) (longest : ℕ) (s : State) (c : Core) (u n : ℤ) → BusyWithin x longest → PrimitiveCalled x y c (VmResize u n) s →
     is_good y.map.params.pages c.users (VmResize u n) ≡ true →
     (b : ComesBack x y longest c (VmResize u n) s) × NameZeros y.map (nat_abs u) (pages_of (user_of c.users (nat_abs u))) (nat_abs n) (run x s b.comes.steps)
 
 -- the primitives: each comes back, and growth is by the zero frame
 pub record PrimitivesRun (y : Site) : Type 0 where
   pub answers : PrimitivesAnswer y
-  pub grows : GrowsFresh y
+  pub grows : GrowthIsFresh y
 
 abbrev pub ImagePrimitives : Type 0
 ImagePrimitives = (m : Map) (sizes code : List ℕ) → IsMade m sizes code → PrimitivesRun (image_site m sizes code)

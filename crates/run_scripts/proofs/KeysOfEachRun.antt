@@ -19,7 +19,7 @@ use Rattle.boot_run.proofs.AbstractRuns.{turns_up_to}
 use Rattle.run_scripts.proofs.RowsAlongRuns.{Known}
 use Rattle.run_scripts.proofs.ScriptsTell.{quiet_load}
 use Rattle.run_scripts.proofs.ReportsTell.{run_tells}
-use Rattle.run_scripts.proofs.StartSectors.{load_makes}
+use Rattle.run_scripts.proofs.LoadMakesSectors.{load_makes}
 use Rattle.run_scripts.proofs.StoredRuns.{run_leaves}
 
 pub pasts_agree : UnitsDontMatter → TurnLaws → PastsAgree

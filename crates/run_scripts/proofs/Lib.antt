@@ -2,7 +2,7 @@ pub mod GetsKeep
 pub mod ResumeScripts
 pub mod EachHeadline
 mod SchedulesPromise
-mod LayerWords
+mod LinkedAreWords
 pub mod FirstCores
 pub mod SystemsFollow
 pub mod AcceptedImages
@@ -13,7 +13,7 @@ pub mod ReportsTell
 pub mod ScriptsMadeOf
 mod LastingProperties
 pub mod ScriptsStore
-pub mod StartSectors
+pub mod LoadMakesSectors
 pub mod StoredRuns
 pub mod KeysOfEachRun
 pub mod OneCommand
@@ -39,7 +39,7 @@ mod SavedMachines
 mod SavesHold
 mod ResumesGoOn
 mod ResumedMachines
-mod OtherDisks
+mod DiskDoesntMatter
 pub mod RunPromises
 pub mod PromisedSaves
 pub mod MachinesRest

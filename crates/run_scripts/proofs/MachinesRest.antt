@@ -3,7 +3,7 @@ use Rattle.run_scripts.specs.Keys.{ScriptLaws}
 use Rattle.run_scripts.specs.Command.{save_session}
 use Rattle.run_scripts.specs.Promises.{MachinesRest}
 use Rattle.run_scripts.proofs.KeysOfEachRun.{ends_are_over}
-use Rattle.run_scripts.proofs.OtherDisks.{with_disk, other_disk}
+use Rattle.run_scripts.proofs.DiskDoesntMatter.{with_disk, other_disk}
 use Rattle.run_scripts.proofs.RunPromises.{was_done, asked_of, no_call_failed}
 use Rattle.run_scripts.proofs.PromisedSaves.{asked_save_of, asked_resume_of, no_save_failed, no_resume_failed}
 

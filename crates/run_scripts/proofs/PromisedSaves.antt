@@ -52,7 +52,7 @@ use Rattle.run_scripts.proofs.RowsAlongRuns.{Known, founded}
 use Rattle.run_scripts.proofs.PerformedScripts.{Says, says_text, leaves_sectors}
 use Rattle.run_scripts.proofs.RunPromises.{told_disk, was_done, plan_finds, ran, headline_told}
 use Rattle.run_scripts.proofs.NothingElseRefused.{none_blamed}
-use Rattle.run_scripts.proofs.OtherDisks.{with_disk, other_disk}
+use Rattle.run_scripts.proofs.DiskDoesntMatter.{with_disk, other_disk}
 use Rattle.run_scripts.proofs.ReportsTell.{rest_tells}
 use Rattle.run_scripts.proofs.SavedMachines.{saved_at, FileLaws}
 use Rattle.run_scripts.proofs.TurnsRise.{no_later}

@@ -39,7 +39,7 @@ use Rattle.run_scripts.proofs.KeysOfEachRun.{known}
 use Rattle.run_scripts.proofs.ScriptsMadeOf.{of_report, of_rows}
 use Rattle.run_scripts.proofs.RowsAlongRuns.{Known}
 use Rattle.run_scripts.proofs.PerformedScripts.{says_text}
-use Rattle.run_scripts.proofs.OtherDisks.{with_disk, other_disk}
+use Rattle.run_scripts.proofs.DiskDoesntMatter.{with_disk, other_disk}
 use Rattle.run_scripts.proofs.ReportsTell.{rest_tells}
 use Rattle.run_scripts.proofs.RunFaults.{disk_due}
 use Rattle.run_scripts.proofs.TurnsRise.{no_later}

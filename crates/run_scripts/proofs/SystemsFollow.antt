@@ -34,9 +34,9 @@ use Rattle.unit_runs.specs.Runs.{IsLinked, UnitsCallsFollow, UnitsRunOverLayers}
 use Rattle.unit_runs.proofs.FirstCore.{same_sizes}
 use Rattle.kernel_linker.specs.Accept.{ImageSystem}
 use Rattle.kernel_linker.specs.Linked.{pages_for, sizes_of}
-use Rattle.user_c0.proofs.WordRange.{code_words as words_fit}
+use Rattle.user_c0.proofs.ImagesAreWords.{code_words as words_fit}
 use Rattle.run_scripts.proofs.FirstCores.{its_boot, its_map, starts, core_fits}
-use Rattle.run_scripts.proofs.LayerWords.{layer_words_fit}
+use Rattle.run_scripts.proofs.LinkedAreWords.{layer_words_fit}
 
 -- what the laws of units and of layers say
 pub record UnitLaws : Type 0 where

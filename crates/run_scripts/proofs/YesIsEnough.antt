@@ -37,7 +37,7 @@ use Rattle.run_scripts.specs.Refusal as refusal
 use Rattle.run_scripts.specs.Refusal.{Refusal, refusal_text}
 use Rattle.run_scripts.specs.Plan.{Plan, Got, long, whole, told_plan, AfterChecked}
 use Rattle.run_scripts.specs.Boot.{booted}
-use Rattle.run_scripts.specs.Suffices.{HasStack, SaysYes, NeverOut}
+use Rattle.run_scripts.specs.Suffices.{HasStack, SaysYes, SystemNeverOut}
 use Rattle.boot_run.specs.Closing.{says}
 use Rattle.run_scripts.specs.Ends.{PlanAsks, done, no_file, no_memory}
 use Rattle.run_scripts.specs.Served.{files_of, gets}
@@ -183,7 +183,7 @@ system_unit one source stack s u is has =
     cc
 
 -- THE STACK IS ENOUGH
-never_out : LongestIsKept → (stack : ℕ) (u : CUnit) (s : ImageSystem) → Roomy stack u → s.unit ≡ u → stack ≤ s.params.stack → NeverOut s
+never_out : LongestIsKept → (stack : ℕ) (u : CUnit) (s : ImageSystem) → Roomy stack u → s.unit ≡ u → stack ≤ s.params.stack → SystemNeverOut s
 never_out law stack u s r same enough rows lines k c is =
     let room : r.words ≤ s.params.stack = let a = r.room in omega (arith, a, enough) in
     law u r.words r.functions (booted s rows) r.longest (ap (λ (x : CUnit). kernel_meaning x s.params) same) room lines k c is

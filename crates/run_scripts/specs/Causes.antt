@@ -22,7 +22,7 @@ use Rattle.run_scripts.specs.Ends.{Ends}
 use Rattle.run_scripts.specs.Served.{files_of, ServesWords, NoneFailed}
 use Rattle.run_scripts.specs.Headline.{IsOf}
 
--- the count of this object rose, or of none where it is none; and the counts of all others are as before
+-- this object counted one fault more, or none did where it is none; and the counts of all others are as before
 abbrev pub FaultRose : Option Who → (old new : Outside) → Type 0
 FaultRose blamed old new = (whom : Who) → Blamed old new blamed whom
 
@@ -63,7 +63,7 @@ pub record IsTooLong (words : List (List ℕ)) (old new : Outside) : Type 0 wher
   pub is_plan : IsPlan (AllTold words old.shelf.file) (PlanComesTo words old.shelf.file) (refuses too_long)
   pub taken : new.shelf.taken ≡ TOO_LONG
 
--- BY THE STATUS, over any outside: an object failed and counted it, or the disk is too small, or a file is too long; else no count changed, and 3 and 4 come
+-- BY THE STATUS, over any outside: an object failed and counted one fault, or the disk is too small, or a file is too long; else no count changed, and 3 and 4 come
 -- of a run, 0 of one or of a plan that loads nothing
 abbrev pub CausedBy : Status → List (List ℕ) → (old new : Outside) → Type 0
 CausedBy Disk words old new = FaultRose (Some TheDisk) old new ⊎ (FaultRose None old new × IsTooSmall words old)

@@ -5,12 +5,12 @@ use Rattle.cvm_model.specs.declared.kernel_fault.KernelFault.TheVariants.{StackO
 use Rattle.cvm_model.specs.Cvm.{Faulted}
 use Rattle.kernel_linker.specs.Accept.{ImageSystem}
 use Rattle.run_scripts.specs.declared.session.Session.{Session}
-use Rattle.run_scripts.specs.Suffices.{NeverOut}
+use Rattle.run_scripts.specs.Suffices.{SystemNeverOut}
 use Rattle.boot_turns.specs.Runs.{Past, IsPast, steps_made, cvm_at}
 use Rattle.run_scripts.specs.SessionRuns.{run_of}
 
 -- where the stack of a system is enough, no run of it by any command meets want of stack
 abbrev pub StackOutIsNotMet : Type 0
-StackOutIsNotMet = (s : ImageSystem) → NeverOut s → (session : Session) (rows : Rows) (size : ℕ) (before : List (List ℕ)) (p : Past) →
+StackOutIsNotMet = (s : ImageSystem) → SystemNeverOut s → (session : Session) (rows : Rows) (size : ℕ) (before : List (List ℕ)) (p : Past) →
     IsPast (run_of session s rows size before) p →
     (cvm_at (run_of session s rows size before) p (steps_made (run_of session s rows size before))).status ≢ Faulted StackOut

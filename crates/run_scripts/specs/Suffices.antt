@@ -1,7 +1,7 @@
 -- What a `yes` of a check means: no run of a system of the object's source with so much stack stops for want of stack.
 use Rattle.std.specs.Prelude.{◌≡◌, ◌≢◌, ℕ, ◌≤◌, List, ◌++◌, codes, Some, Ok}
 use Rattle.schedule_file.specs.Rows.{Rows}
-use Rattle.bound_check.specs.Kept.{NeverOut as RunsNeverOut}
+use Rattle.bound_check.specs.Kept.{NeverOut}
 use Rattle.object_file.specs.Answer.{IsObjectAnswer as IsObject}
 use Rattle.object_file.specs.Parts.{ObjectParts as Object}
 use Rattle.boot_image.specs.Parts.{ImageParts as Image}
@@ -41,14 +41,14 @@ pub record HasStack (source : List ℕ) (stack : ℕ) (s : ImageSystem) : Type 0
   pub enough : stack ≤ s.params.stack
 
 -- no run of the system stops for want of stack, whatever the schedule and the lines of its turns are
-abbrev pub NeverOut : ImageSystem → Type 0
-NeverOut s = (rows : Rows) → RunsNeverOut (booted s rows)
+abbrev pub SystemNeverOut : ImageSystem → Type 0
+SystemNeverOut s = (rows : Rows) → NeverOut (booted s rows)
 
 -- THE STACK IS ENOUGH where a check said `yes`, with whatever status: for each accepted system of that source with as much, whatever its users and other
 -- parameters are
 abbrev pub Suffices : List (List ℕ) → Status → (old new : Outside) → Type 0
 Suffices words status old new = (source : List ℕ) (stack : ℕ) (s : ImageSystem) → SaysYes words source stack old new →
-    HasStack source stack s → NeverOut s
+    HasStack source stack s → SystemNeverOut s
 
 -- what was printed in a call ends with this row
 pub record EndsWith (row : List ℕ) (old new : Outside) : Type 0 where

@@ -1,5 +1,5 @@
 -- The state of the example.
-use Rattle.layer_contract.proofs.SampleMachine.{some_stores}
+use Rattle.layer_contract.proofs.SampleOverwritesItself.{some_stores}
 use Rattle.layer_contract.proofs.a_user_stores.Goals as goal
 
 pub returns : goal.returns

@@ -1,5 +1,5 @@
 -- The reset.
-use Rattle.layer_contract.proofs.ResetState.{reset_stands}
+use Rattle.layer_contract.proofs.ResetStandsForStart.{reset_stands}
 use Rattle.layer_contract.proofs.the_reset_stands.Goals as goal
 
 pub returns : goal.returns

@@ -4,7 +4,7 @@ use Rattle.std.proofs.lemmas.Result.{err_from_is_err_and}
 use Rattle.std.proofs.lemmas.List.{take_all}
 use Rattle.layer_map.specs.Map.{globals_at}
 use Rattle.cvm_outside.proofs.RowsPut.{puts_none}
-use Rattle.boot_report.proofs.GlobalNumbers.{one_more, one_stops}
+use Rattle.boot_report.proofs.GlobalsInTurn.{one_more, one_stops}
 use Rattle.boot_report.proofs.globals.put_globals.Goals as goal
 
 pub loop-i-init : goal.loop-i-init

@@ -1,7 +1,7 @@
 use Rattle.std.proofs.Common.{codes, ◌++◌}
 use Rattle.std.proofs.lemmas.Result.{err_from_is_err_and}
 use Rattle.cvm_outside.proofs.RowsPut.{puts_both, puts_first, puts_same}
-use Rattle.boot_report.proofs.GlobalRows.{row_is, not_empty}
+use Rattle.boot_report.proofs.GlobalInThreeParts.{row_is, not_empty}
 use Rattle.boot_report.proofs.globals.put_named.Goals as goal
 
 pub returns-in_err-put : goal.returns-in_err-put

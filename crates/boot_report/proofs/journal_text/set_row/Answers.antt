@@ -1,7 +1,7 @@
 use Rattle.std.proofs.Common.{◌∙◌, ap, ◌++◌}
 use Rattle.std.specs.Prelude.{codes, decimal}
 use Rattle.cvm_text.specs.Hex.{hex8}
-use Rattle.boot_report.proofs.RegisterRow.{hex_put}
+use Rattle.boot_report.proofs.RegisterIsPut.{hex_put}
 use Rattle.boot_report.proofs.journal_text.set_row.Goals as goal
 
 pub returns : goal.returns

@@ -1,4 +1,4 @@
-use Rattle.boot_report.proofs.GlobalRows.{globals_tell}
+use Rattle.boot_report.proofs.GlobalInThreeParts.{globals_tell}
 use Rattle.boot_report.proofs.laws.a_global_tells.Goals as goal
 
 pub returns : goal.returns

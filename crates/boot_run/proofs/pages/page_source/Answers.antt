@@ -1,7 +1,7 @@
 use Rattle.std.proofs.Common.{◌≡◌, ℕ, ◌*◌, ◌/◌, ◌%◌, ◌+◌, ◌<◌, [], map, get_or, length, sym, ap, ◌∙◌, subst, Vec, Global}
 use Rattle.std.specs.Prelude.{nat_lt}
 use Rattle.std.proofs.lemmas.List.{length-map}
-use Rattle.boot_run.proofs.UserPages.{its_list, user_there, live_is, word_is, live_below, word_below}
+use Rattle.boot_run.proofs.PagesAtStart.{its_list, user_there, live_is, word_is, live_below, word_below}
 use Rattle.boot_run.proofs.pages.page_source.Goals as goal
 
 pub returns-then-q-pages : goal.returns-then-q-pages

@@ -9,7 +9,7 @@ use Rattle.boot_run.specs.Loaded.{boot_load}
 use Rattle.boot_run.proofs.SavedBoots.{saves_so}
 use Rattle.boot_run.specs.LoadScript.{load_script}
 use Rattle.boot_run.proofs.SaveScripts.{save_refused, save_made}
-use Rattle.boot_run.proofs.WholeScripts.{unloaded}
+use Rattle.boot_run.proofs.LoadsAndRuns.{unloaded}
 use Rattle.boot_run.proofs.saving.run_to_save.Goals as goal
 
 pub returns-in_err-run-clause-stops : goal.returns-in_err-run-clause-stops

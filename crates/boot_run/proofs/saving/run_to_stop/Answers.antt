@@ -3,7 +3,7 @@ use Rattle.boot_run.specs.RunEnds.{EndsUnsaved}
 use Rattle.boot_run.proofs.AnyEnding.{fault_unsaved}
 use Rattle.boot_run.proofs.WhereSavesStop.{stopped}
 use Rattle.boot_run.specs.SaveCalls.{unless_on, stop_by, ToStopCalls}
-use Rattle.boot_run.proofs.EndScripts.{rest_fails, rest_closes}
+use Rattle.boot_run.proofs.RunsAreClosed.{rest_fails, rest_closes}
 use Rattle.boot_run.proofs.SaveScripts.{stop_parts}
 use Rattle.boot_run.proofs.ReadingCalls.{calls_keep_size}
 use Rattle.boot_run.proofs.saving.run_to_stop.Goals as goal

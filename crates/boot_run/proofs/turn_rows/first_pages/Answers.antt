@@ -1,7 +1,7 @@
 use Rattle.std.proofs.Common.{◌∙◌, ap, sym, length}
 use Rattle.std.specs.Prelude.{min}
 use Rattle.std.specs.Int.{div_ceil}
-use Rattle.boot_run.proofs.FirstPages.{first_pages}
+use Rattle.boot_run.proofs.FirstRowTellsPages.{first_pages}
 use Rattle.boot_run.proofs.turn_rows.first_pages.Goals as goal
 
 pub returns : goal.returns

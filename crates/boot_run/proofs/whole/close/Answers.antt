@@ -4,7 +4,7 @@ use Rattle.boot_turns.specs.declared.answers.RunFault.TheVariants.{StepLimit}
 use Rattle.boot_run.specs.Shown.{has_faulted}
 use Rattle.boot_run.specs.AnyRun.{is_faulted}
 use Rattle.boot_run.proofs.AnyEnding.{fault_is, fault_unsaved}
-use Rattle.boot_run.proofs.EndScripts.{closed_none, closed_done, closed_fails}
+use Rattle.boot_run.proofs.RunsAreClosed.{closed_none, closed_done, closed_fails}
 use Rattle.boot_run.proofs.whole.close.Goals as goal
 
 pub returns-in-Err-clause-faulted : goal.returns-in-Err-clause-faulted

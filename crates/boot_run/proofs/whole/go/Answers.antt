@@ -10,7 +10,7 @@ use Rattle.boot_run.specs.AnyScripts.{TurnsUntold}
 use Rattle.boot_run.specs.TurnCalls.{Around, run_around}
 use Rattle.boot_run.proofs.AnyRunCalls.{any_first, any_next, any_failed, any_over, any_went}
 use Rattle.boot_run.proofs.GoScripts.{KeepsMade, made_first, made_next, go_broke, go_came}
-use Rattle.boot_run.proofs.TurnLoop.{keeps_first, keeps_next, go_failed, went_over, went, not_over, not_failed, was_over}
+use Rattle.boot_run.proofs.LoopOverTurns.{keeps_first, keeps_next, go_failed, went_over, went, not_over, not_failed, was_over}
 use Rattle.boot_run.proofs.UntoldTurns.{untold_first, untold_next, untold_came, untold_failed}
 use Rattle.boot_run.proofs.whole.go.Goals as goal
 

@@ -4,7 +4,7 @@ use Rattle.boot_run.specs.AnyScripts.{TurnsUntold}
 use Rattle.boot_run.specs.TurnCalls.{run_around, KeepsLoad}
 use Rattle.boot_run.proofs.AnyRunCalls.{AnyGoing}
 use Rattle.boot_run.proofs.GoScripts.{KeepsMade}
-use Rattle.boot_run.proofs.TurnLoop.{KeepsGoing}
+use Rattle.boot_run.proofs.LoopOverTurns.{KeepsGoing}
 use Rattle.boot_run.proofs.whole.go.Given as goal
 
 abbrev pub invariant-loop-left : goal.invariant-loop-left

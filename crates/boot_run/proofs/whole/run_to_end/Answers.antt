@@ -1,7 +1,7 @@
 use Rattle.std.proofs.Common.{Ok, rules, refl, sym, ◌∙◌, subst}
 use Rattle.boot_run.specs.RunCalls.{all_calls, end_by, RestCalls}
 use Rattle.boot_run.proofs.AnyEnding.{fault_unsaved}
-use Rattle.boot_run.proofs.EndScripts.{rest_fails, rest_closes}
+use Rattle.boot_run.proofs.RunsAreClosed.{rest_fails, rest_closes}
 use Rattle.boot_run.proofs.ReadingCalls.{of_run_too, calls_keep_size}
 use Rattle.boot_run.specs.AnyScripts.{RestUntold}
 use Rattle.boot_run.proofs.UntoldEnds.{rest_broken, rest_closed}

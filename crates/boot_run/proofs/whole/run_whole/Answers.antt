@@ -6,7 +6,7 @@ use Rattle.boot_run.specs.LoadedPages.{user_pages}
 use Rattle.boot_run.specs.LoadEnds.{pages_needed}
 use Rattle.boot_run.specs.Loaded.{boot_load}
 use Rattle.boot_run.specs.LoadScript.{load_script}
-use Rattle.boot_run.proofs.WholeScripts.{unloaded, whole_refused, whole_made}
+use Rattle.boot_run.proofs.LoadsAndRuns.{unloaded, whole_refused, whole_made}
 use Rattle.boot_run.proofs.whole.run_whole.Goals as goal
 
 pub returns-in_err-run-clause-loads : goal.returns-in_err-run-clause-loads

@@ -10,7 +10,7 @@ use Rattle.c0_tree.specs.Tree.{CFunction, CUnit}
 use Rattle.c0_tree.specs.View.{function_view, unit_view}
 use Rattle.c0_meaning.specs.Limits.{is_first, first_number}
 use Rattle.c0_meaning.specs.Unit.{IsCheckedAs}
-use Rattle.c0_meaning.proofs.FirstFunction.{first_inside}
+use Rattle.c0_meaning.proofs.RunsHaveAFirst.{first_inside}
 use Rattle.c0_meaning.proofs.first.first_of.Goals as goal
 
 few : (u : CUnit) → is_plain u ≡ true → length u.functions < 2 ^ 32

@@ -1,4 +1,4 @@
-use Rattle.c0_meaning.proofs.FaultOrder.{order_is_total}
+use Rattle.c0_meaning.proofs.FaultOrderIsTotal.{order_is_total}
 use Rattle.c0_meaning.proofs.laws.fault_order_is_total.Goals as goal
 
 pub returns : goal.returns

@@ -23,8 +23,8 @@ use Rattle.c0_body_check.specs.Scope.{FieldsTell, shape_view, typed_view}
 use Rattle.c0_body_check.specs.Stmts.{code_faults, resolved_of_stmts}
 use Rattle.c0_types.specs.Known.{unit_env}
 use Rattle.c0_types.specs.Parts.{nodes_with, with_locals}
-use Rattle.c0_types.proofs.BodiesScope.{locals_typed, numbered_typed, over_capped}
-use Rattle.c0_types.proofs.DeclaredMeeting.{five_met}
+use Rattle.c0_types.proofs.ScopeIsDeclared.{locals_typed, numbered_typed, over_capped}
+use Rattle.c0_types.proofs.FaultsMetInTurn.{five_met}
 use Rattle.c0_types.proofs.bodies.check_statements.Goals as goal
 
 pub check_code-requires : goal.check_code-requires

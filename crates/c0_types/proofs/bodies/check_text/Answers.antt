@@ -12,7 +12,7 @@ use Rattle.c0_meaning.specs.Names.{decl_name_faults}
 use Rattle.c0_name_check.specs.Met.{met_view}
 use Rattle.c0_name_check.proofs.FaultsMet.{two_met}
 use Rattle.c0_types.specs.Source.{asm_line_fault}
-use Rattle.c0_types.proofs.BodiesScope.{over_capped}
+use Rattle.c0_types.proofs.ScopeIsDeclared.{over_capped}
 use Rattle.c0_types.proofs.bodies.check_text.Goals as goal
 
 pub returns-clause-met : goal.returns-clause-met

@@ -6,7 +6,7 @@ use Rattle.std.specs.Str.{bytes_eq}
 use Rattle.c0_tree.specs.View.{decl_view}
 use Rattle.c0_name_check.specs.Met.{met_view}
 use Rattle.c0_name_check.specs.Names.{look}
-use Rattle.c0_types.proofs.BodiesNames.{both_met, both_told}
+use Rattle.c0_types.proofs.LocalNamesInTurn.{both_met, both_told}
 use Rattle.c0_types.proofs.bodies.name_locals.Goals as goal
 
 pub returns-clause-names : goal.returns-clause-names

@@ -8,7 +8,7 @@ use Rattle.c0_name_check.specs.Met.{met_view}
 use Rattle.c0_name_check.proofs.FaultsMet.{kept_all-append}
 use Rattle.c0_body_check.proofs.InPlace.{rest}
 use Rattle.c0_types.proofs.DeclaredInPlace.{numbered_next, numbered_step, numbered_end}
-use Rattle.c0_types.proofs.DeclaredDecls.{declared, decls_numbered}
+use Rattle.c0_types.proofs.DeclarationsInTurn.{declared, decls_numbered}
 use Rattle.c0_types.proofs.decls.check_decls.Goals as goal
 
 pub loop-decl-preserved : goal.loop-decl-preserved

@@ -8,7 +8,7 @@ use Rattle.c0_name_check.specs.Structs.{KnowsStructs}
 use Rattle.c0_tree.specs.View.{decl_view}
 use Rattle.c0_body_check.proofs.InPlace.{rest}
 use Rattle.c0_types.proofs.DeclaredInPlace.{numbered}
-use Rattle.c0_types.proofs.DeclaredDecls.{declared}
+use Rattle.c0_types.proofs.DeclarationsInTurn.{declared}
 use Rattle.c0_types.proofs.decls.check_decls.Given as goal
 
 abbrev pub invariant-loop-decl : goal.invariant-loop-decl

@@ -11,7 +11,7 @@ use Rattle.c0_meaning.specs.Resolved.{resolved_decls}
 use Rattle.c0_meaning.specs.Limits.{is_asm, max_parameters}
 use Rattle.c0_name_check.specs.Met.{met_view}
 use Rattle.c0_meaning.proofs.StableTypes.{pass_kept, passes_kept, decls_length}
-use Rattle.c0_types.proofs.DeclaredMeeting.{five_met}
+use Rattle.c0_types.proofs.FaultsMetInTurn.{five_met}
 use Rattle.c0_types.proofs.headings.check_heading.Goals as goal
 
 pub returns-clause-met : goal.returns-clause-met

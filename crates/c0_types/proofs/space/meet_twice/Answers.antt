@@ -12,7 +12,7 @@ use Rattle.c0_name_check.specs.Names.{look}
 use Rattle.c0_name_check.specs.Spaces.{twice_by}
 use Rattle.c0_name_check.proofs.OneMoreDeclared.{met_step}
 use Rattle.c0_types.specs.SourceOrder.{comes_next}
-use Rattle.c0_types.proofs.DeclaredSpaces.{other_next, own_next, others_left, own_left, length_left}
+use Rattle.c0_types.proofs.NamesSetInTurn.{other_next, own_next, others_left, own_left, length_left}
 use Rattle.c0_types.proofs.space.meet_twice.Goals as goal
 use Rattle.c0_types.proofs.space.meet_twice.Goals.{then-global-globals, else-global-globals+then-function-functions}
 

@@ -6,7 +6,7 @@ use Rattle.c0_meaning.specs.Fault.{kept_all}
 use Rattle.c0_meaning.specs.Names.{unit_names}
 use Rattle.c0_name_check.specs.Met.{met_view}
 use Rattle.c0_name_check.specs.Names.{look}
-use Rattle.c0_types.proofs.DeclaredSpaces.{numbered_among}
+use Rattle.c0_types.proofs.NamesSetInTurn.{numbered_among}
 use Rattle.c0_types.proofs.space.name_unit.Goals as goal
 
 pub returns-clause-met : goal.returns-clause-met

@@ -3,7 +3,7 @@ use Rattle.std.proofs.Common.{◌≡◌, ◌+◌, ◌∷◌, ℕ, List, map, dro
 use Rattle.std.proofs.lemmas.List.{drop_more}
 use Rattle.std.specs.Option.{option_or}
 use Rattle.c0_name_check.specs.Names.{look, number_named}
-use Rattle.c0_types.proofs.DeclaredSpaces.{number_step}
+use Rattle.c0_types.proofs.NamesSetInTurn.{number_step}
 use Rattle.c0_types.proofs.space.number_all.Goals as goal
 
 pub loop-named-preserved : goal.loop-named-preserved

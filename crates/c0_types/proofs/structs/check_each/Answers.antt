@@ -15,7 +15,7 @@ use Rattle.c0_name_check.specs.Met.{met_view}
 use Rattle.c0_name_check.proofs.FaultsMet.{kept_all-append}
 use Rattle.c0_types.specs.NumberedStruct.{resolved_struct}
 use Rattle.c0_types.proofs.DeclaredInPlace.{IsNext, numbered_next, numbered_step, numbered_end}
-use Rattle.c0_types.proofs.DeclaredStructs.{structs_numbered, told_at, told_more}
+use Rattle.c0_types.proofs.StructsCheckedInTurn.{structs_numbered, told_at, told_more}
 use Rattle.c0_types.proofs.structs.check_each.Goals as goal
 
 pub check_struct-requires : goal.check_struct-requires

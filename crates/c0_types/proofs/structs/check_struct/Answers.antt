@@ -16,8 +16,8 @@ use Rattle.c0_meaning.specs.Words.{holds}
 use Rattle.c0_meaning.proofs.StableTypes.{typed_kept}
 use Rattle.c0_name_check.specs.Met.{met_view}
 use Rattle.c0_name_check.specs.Names.{number_named}
-use Rattle.c0_types.proofs.DeclaredMeeting.{four_met}
-use Rattle.c0_types.proofs.DeclaredStructs.{number_viewed}
+use Rattle.c0_types.proofs.FaultsMetInTurn.{four_met}
+use Rattle.c0_types.proofs.StructsCheckedInTurn.{number_viewed}
 use Rattle.c0_types.proofs.structs.check_struct.Goals as goal
 
 pub returns-clause-fields : goal.returns-clause-fields

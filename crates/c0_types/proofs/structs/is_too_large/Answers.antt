@@ -8,7 +8,7 @@ use Rattle.c0_meaning.specs.Words.{words}
 use Rattle.c0_name_check.specs.Names.{look}
 use Rattle.c0_name_check.specs.Structs.{listed_words}
 use Rattle.c0_name_check.proofs.StructsTell.{same_words}
-use Rattle.c0_types.proofs.DeclaredStructs.{large_capped}
+use Rattle.c0_types.proofs.StructsCheckedInTurn.{large_capped}
 use Rattle.c0_types.proofs.structs.is_too_large.Goals as goal
 
 pub returns : goal.returns

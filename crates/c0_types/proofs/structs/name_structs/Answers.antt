@@ -10,8 +10,8 @@ use Rattle.c0_name_check.specs.Met.{met_view}
 use Rattle.c0_name_check.specs.Names.{look, number_named}
 use Rattle.c0_name_check.specs.Spaces.{twice_by}
 use Rattle.c0_name_check.proofs.OneMoreDeclared.{met_step}
-use Rattle.c0_types.proofs.DeclaredSpaces.{number_step, number_end}
-use Rattle.c0_types.proofs.DeclaredStructs.{number_viewed}
+use Rattle.c0_types.proofs.NamesSetInTurn.{number_step, number_end}
+use Rattle.c0_types.proofs.StructsCheckedInTurn.{number_viewed}
 use Rattle.c0_types.proofs.structs.name_structs.Goals as goal
 
 pub loop-definition-preserved : goal.loop-definition-preserved

@@ -10,8 +10,8 @@ use Rattle.c0_body_check.specs.Scope.{signature_view}
 use Rattle.c0_body_check.proofs.InPlace.{rest, done-next, in_place_end}
 use Rattle.c0_types.specs.Known.{unit_env}
 use Rattle.c0_types.specs.Parts.{bodied, bodies_faults, functions_nodes, is_plain_function}
-use Rattle.c0_types.proofs.UnitHeadings.{all_at}
-use Rattle.c0_types.proofs.UnitBodies.{no_function, knows_same, env_same, signatures_same, one_more, OneMore}
+use Rattle.c0_types.proofs.HeadingsInTurn.{all_at}
+use Rattle.c0_types.proofs.BodiesCheckedInTurn.{no_function, knows_same, env_same, signatures_same, one_more, OneMore}
 use Rattle.c0_types.proofs.unit.check_bodies.Goals as goal
 
 pub check_body_at-requires : goal.check_body_at-requires

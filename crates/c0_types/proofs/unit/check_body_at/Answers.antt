@@ -9,8 +9,8 @@ use Rattle.c0_meaning.specs.Fault.{kept_all}
 use Rattle.c0_name_check.specs.Met.{met_view}
 use Rattle.c0_types.specs.Known.{unit_env}
 use Rattle.c0_types.specs.Parts.{faults_of_body, is_plain_function}
-use Rattle.c0_types.proofs.UnitHeadings.{few_params, plain_body}
-use Rattle.c0_types.proofs.UnitBodies.{knows_same, env_same, swapped, signatures_swapped, seen_at, faults_swapped, put_back, body_swapped}
+use Rattle.c0_types.proofs.HeadingsInTurn.{few_params, plain_body}
+use Rattle.c0_types.proofs.BodiesCheckedInTurn.{knows_same, env_same, swapped, signatures_swapped, seen_at, faults_swapped, put_back, body_swapped}
 use Rattle.c0_types.proofs.unit.check_body_at.Goals as goal
 
 pub check_body-requires-clause-knows : goal.check_body-requires-clause-knows

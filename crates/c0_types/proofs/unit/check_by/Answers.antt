@@ -20,8 +20,8 @@ use Rattle.c0_name_check.proofs.FaultsMet.{two_met}
 use Rattle.c0_types.specs.Known.{TellUnit, declarations_env}
 use Rattle.c0_types.specs.Parts.{bodied, bodies_faults, functions_nodes, headed_functions, is_plain_function, outer_faults, outer_unit}
 use Rattle.c0_types.specs.Source.{checked_as, read_function, read_unit}
-use Rattle.c0_types.proofs.UnitMeeting.{whole_unit}
-use Rattle.c0_types.proofs.UnitOutside.{env_outer, over_unit, plain_headed, plain_parts, same_unit}
+use Rattle.c0_types.proofs.OrderDoesntMatter.{whole_unit}
+use Rattle.c0_types.proofs.MapsTellDeclared.{env_outer, over_unit, plain_headed, plain_parts, same_unit}
 use Rattle.c0_types.proofs.UnitResolved.{bodies_headed, functions_resolved, nodes_headed, nodes_of_read}
 use Rattle.c0_types.proofs.unit.check_by.Goals as goal
 

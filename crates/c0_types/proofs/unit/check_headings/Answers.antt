@@ -10,7 +10,7 @@ use Rattle.c0_name_check.proofs.FaultsMet.{kept_all-append}
 use Rattle.c0_body_check.proofs.InPlace.{rest, rest-all, map-get_or}
 use Rattle.c0_types.specs.Parts.{headed, heading_faults, headings_faults, is_plain_function}
 use Rattle.c0_types.proofs.DeclaredInPlace.{numbered_next, numbered_step, numbered_end}
-use Rattle.c0_types.proofs.UnitHeadings.{functions_numbered, all_at, few_params, other_set}
+use Rattle.c0_types.proofs.HeadingsInTurn.{functions_numbered, all_at, few_params, other_set}
 use Rattle.c0_types.proofs.unit.check_headings.Goals as goal
 
 pub check_heading-requires : goal.check_heading-requires

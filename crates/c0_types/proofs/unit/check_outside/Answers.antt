@@ -24,8 +24,8 @@ use Rattle.c0_name_check.specs.Names.{number_named}
 use Rattle.c0_name_check.specs.Structs.{KnowsStructs}
 use Rattle.c0_body_check.specs.Scope.{FieldsTell}
 use Rattle.c0_types.specs.Parts.{headed_functions, headings_faults, is_plain_function}
-use Rattle.c0_types.proofs.DeclaredMeeting.{five_met}
-use Rattle.c0_types.proofs.UnitOutside.{plain_parts, tell_unit, same_unit}
+use Rattle.c0_types.proofs.FaultsMetInTurn.{five_met}
+use Rattle.c0_types.proofs.MapsTellDeclared.{plain_parts, tell_unit, same_unit}
 use Rattle.c0_types.proofs.unit.check_outside.Goals as goal
 
 pub check_structs-requires : goal.check_structs-requires

@@ -1,4 +1,4 @@
-use Rattle.cvm_model.proofs.JournalWords.{journals_hold_words}
+use Rattle.cvm_model.proofs.SetValuesAreWords.{journals_hold_words}
 use Rattle.cvm_model.proofs.reasoning.journals_hold_words.Goals as goal
 
 pub returns : goal.returns

@@ -1,4 +1,4 @@
-use Rattle.cvm_model.proofs.MachineShapes.{runs_are_lawful}
+use Rattle.cvm_model.proofs.ShapesAreKept.{runs_are_lawful}
 use Rattle.cvm_model.proofs.reasoning.runs_are_lawful.Goals as goal
 
 pub returns : goal.returns

@@ -1,4 +1,4 @@
-use Rattle.cvm_text.proofs.WholeNumbers.{whole_read, whole_spelled}
+use Rattle.cvm_text.proofs.WholeWordsSpellNumbers.{whole_read, whole_spelled}
 use Rattle.cvm_text.proofs.lines.whole_numbers_are_spelled.Goals as goal
 
 pub returns-clause-read : goal.returns-clause-read

@@ -1,5 +1,5 @@
 -- The loop appends the digit of its index.
-use Rattle.cvm_text.proofs.HexDigits.{one_more_digit}
+use Rattle.cvm_text.proofs.HexDigitsByIndex.{one_more_digit}
 use Rattle.cvm_text.proofs.write.hex8.Goals as goal
 
 pub loop-index-preserved : goal.loop-index-preserved

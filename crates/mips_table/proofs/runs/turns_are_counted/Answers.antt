@@ -1,5 +1,5 @@
 -- The counts of turns.
-use Rattle.mips_table.proofs.TurnCounts.{turn_laws}
+use Rattle.mips_table.proofs.FoldCountsTurns.{turn_laws}
 use Rattle.mips_table.proofs.runs.turns_are_counted.Goals as goal
 
 pub returns : goal.returns

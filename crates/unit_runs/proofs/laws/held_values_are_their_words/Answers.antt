@@ -1,5 +1,5 @@
 -- By the values, over the two regions.
-use Rattle.unit_runs.proofs.HeldState.{held_is_flat}
+use Rattle.unit_runs.proofs.RegionsHeldByWords.{held_is_flat}
 use Rattle.unit_runs.proofs.laws.held_values_are_their_words.Goals as goal
 
 pub returns : goal.returns

@@ -1,5 +1,5 @@
 -- By the laws that the body calls.
-use Rattle.unit_runs.proofs.KernelRun.{calls_follow}
+use Rattle.unit_runs.proofs.DispatchRuns.{calls_follow}
 use Rattle.unit_runs.proofs.laws.units_calls_follow.Goals as goal
 
 pub returns : goal.returns

@@ -1,5 +1,5 @@
 -- By the laws that the body calls.
-use Rattle.unit_runs.proofs.KernelRun.{unit_runs}
+use Rattle.unit_runs.proofs.DispatchRuns.{unit_runs}
 use Rattle.unit_runs.proofs.laws.units_run_over_layers.Goals as goal
 
 pub returns : goal.returns

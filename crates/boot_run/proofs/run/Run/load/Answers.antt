@@ -12,7 +12,7 @@ use Rattle.boot_run.proofs.ReadyForTurns.{first_fits, fresh_run, loaded_ready}
 use Rattle.boot_run.proofs.MadeIsLoaded.{loaded_long, loaded_whole, stands_loaded}
 use Rattle.boot_run.specs.LoadedPages.{user_pages}
 use Rattle.boot_run.proofs.LoadStores.{load_leaves}
-use Rattle.boot_run.proofs.WholeScripts.{load_done, load_broke}
+use Rattle.boot_run.proofs.LoadsAndRuns.{load_done, load_broke}
 use Rattle.boot_run.proofs.run.Run.load.Goals as goal
 
 -- the calls

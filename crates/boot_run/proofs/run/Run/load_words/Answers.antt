@@ -13,7 +13,7 @@ use Rattle.boot_run.proofs.LoadStores.{load_leaves}
 use Rattle.boot_run.proofs.RomLoads.{rom_whole, stands_from_rom}
 use Rattle.boot_run.specs.Loaded.{rom_load}
 use Rattle.boot_run.specs.LoadedPages.{rom_pages}
-use Rattle.boot_run.proofs.WholeScripts.{load_done, load_broke}
+use Rattle.boot_run.proofs.LoadsAndRuns.{load_done, load_broke}
 use Rattle.boot_run.proofs.run.Run.load_words.Goals as goal
 
 -- the calls

@@ -1,7 +1,7 @@
 -- A turn of the user that begins with a trap has its row.
 use Rattle.std.proofs.Common.{rules}
 use Rattle.boot_turns.proofs.JournalRows.{trap_rows}
-use Rattle.boot_turns.proofs.EntryRows.{on_any_err, trap_is}
+use Rattle.boot_turns.proofs.EntryRowsArePut.{on_any_err, trap_is}
 use Rattle.boot_turns.proofs.tracer.Tracer.begin.Goals as goal
 
 pub returns-clause-prints : goal.returns-clause-prints

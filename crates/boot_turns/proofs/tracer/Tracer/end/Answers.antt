@@ -5,7 +5,7 @@ use Rattle.cvm_outside.proofs.RowsPut.{same_script}
 use Rattle.mips_machine.specs.Machine.{state_of}
 use Rattle.cvm_model.specs.Text.{journal_rows_after}
 use Rattle.boot_turns.specs.Entries.{call_ends}
-use Rattle.boot_turns.proofs.RowMakes.{prints_made, ended_call}
+use Rattle.boot_turns.proofs.RowsAreScripts.{prints_made, ended_call}
 use Rattle.boot_turns.proofs.tracer.Tracer.end.Goals as goal
 
 -- the rows are those of a primitive that is no copy

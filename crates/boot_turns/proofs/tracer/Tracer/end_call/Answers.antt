@@ -2,7 +2,7 @@
 use Rattle.std.proofs.Common.{◌∙◌, rules}
 use Rattle.cvm_outside.proofs.RowsPut.{puts_same}
 use Rattle.boot_turns.proofs.JournalRows.{set_rows, size_rows, put_rows}
-use Rattle.boot_turns.proofs.EntryRows.{on_any_err, set_is, size_is, put_is, put_text}
+use Rattle.boot_turns.proofs.EntryRowsArePut.{on_any_err, set_is, size_is, put_is, put_text}
 use Rattle.boot_turns.proofs.tracer.Tracer.end_call.Goals as goal
 
 pub returns-then-call-eq-VM_SET-clause-prints : goal.returns-then-call-eq-VM_SET-clause-prints

@@ -4,12 +4,12 @@ use Rattle.cvm_outside.specs.Script.{done}
 use Rattle.cvm_outside.proofs.RowsPut.{same_script}
 use Rattle.layer_map.specs.declared.params.Params.{Params}
 use Rattle.boot_turns.specs.RowScripts.{ended_script}
-use Rattle.boot_turns.proofs.RowMakes.{ended_copy, ended_far, ended_refused, ended_other}
+use Rattle.boot_turns.proofs.RowsAreScripts.{ended_copy, ended_far, ended_refused, ended_other}
 use Rattle.boot_turns.proofs.tracer.Tracer.end_copy.Goals.{then-answer-ne1-via-then-answer-ne1, then-answer-ne1-via-else-answer-ne1+then-user-self, then-answer-ne1-via-else-answer-ne1+else-user-self+then-first-most, then-answer-ne1-via-else-answer-ne1+else-user-self+else-first-most+then-count-most}
 use Rattle.std.specs.Prelude.{OnOk}
 use Rattle.mips_machine.specs.Machine.{state_of}
 use Rattle.boot_turns.specs.declared.tracer.Tracer.{Tracer}
-use Rattle.boot_turns.proofs.StepRows.{copied_then}
+use Rattle.boot_turns.proofs.StepRowsArePut.{copied_then}
 use Rattle.boot_turns.proofs.tracer.Tracer.end_copy.Goals as goal
 
 pub returns-clause-behind : goal.returns-clause-behind

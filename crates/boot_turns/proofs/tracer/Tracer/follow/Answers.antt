@@ -5,7 +5,7 @@ use Rattle.cvm_outside.proofs.RowsPut.{same_script}
 use Rattle.cvm_outside.specs.Outside.{output, drive}
 use Rattle.cvm_outside.specs.Script.{done}
 use Rattle.cvm_model.specs.Text.{journal_rows_after}
-use Rattle.boot_turns.proofs.RowMakes.{prints_made, followed_turn, followed_foreign, followed_none, followed_return}
+use Rattle.boot_turns.proofs.RowsAreScripts.{prints_made, followed_turn, followed_foreign, followed_none, followed_return}
 use Rattle.mips_table.specs.Machine.{State}
 use Rattle.mips_machine.specs.Machine.{Held, state_of}
 use Rattle.boot_turns.specs.declared.tracer.Entered.{Entered}
@@ -15,7 +15,7 @@ use Rattle.boot_turns.specs.Completes.{noted_of}
 use Rattle.boot_turns.specs.Entries.{turn_begins, HasRows}
 use Rattle.boot_turns.specs.Returns.{notes_on, returned}
 use Rattle.std.proofs.lemmas.Result.{err_from_is_err_and}
-use Rattle.boot_turns.proofs.StepRows.{own_turn, other_turn, none_returned, kept_then, call_kept}
+use Rattle.boot_turns.proofs.StepRowsArePut.{own_turn, other_turn, none_returned, kept_then, call_kept}
 use Rattle.boot_turns.proofs.tracer.Tracer.follow.Goals.{then-began+then-current-self+else-prove+in_ok-begin, then-began+else-current-self, else-began+in-Some+in_ok-end, else-began+in_default}
 use Rattle.boot_turns.proofs.tracer.Tracer.follow.Goals as goal
 

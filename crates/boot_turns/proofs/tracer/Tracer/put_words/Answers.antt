@@ -11,9 +11,9 @@ use Rattle.boot_report.specs.Texts.{EntriesFit}
 use Rattle.boot_report.specs.Told.{user_word}
 use Rattle.boot_turns.specs.declared.tracer.Tracer.{Tracer}
 use Rattle.boot_turns.specs.Copies.{copied_kept}
-use Rattle.boot_turns.proofs.RowMakes.{word_made}
+use Rattle.boot_turns.proofs.RowsAreScripts.{word_made}
 use Rattle.boot_turns.proofs.UserWordsRead.{word_is, still_told, as_large}
-use Rattle.boot_turns.proofs.CopiedRows.{put_tracer, keeps_puts, keeps_more}
+use Rattle.boot_turns.proofs.CopiedRowsArePut.{put_tracer, keeps_puts, keeps_more}
 use Rattle.boot_turns.proofs.tracer.Tracer.put_words.Given.{Over}
 use Rattle.boot_turns.proofs.tracer.Tracer.put_words.Goals.{After-read_user_word, In_ok-word}
 use Rattle.boot_turns.proofs.tracer.Tracer.put_words.Goals as goal

@@ -39,8 +39,8 @@ use Rattle.boot_run.specs.Shown.{has_faulted, ended_of}
 use Rattle.boot_run.specs.TurnCalls.{run_around, ReadyAt, KeepsLoad}
 use Rattle.boot_run.proofs.ClosingCalls.{faulted_script}
 use Rattle.boot_run.proofs.GoScripts.{no_sooner, on_there, goes_before, past_tells}
-use Rattle.boot_run.proofs.TurnLoop.{machines}
-use Rattle.boot_run.proofs.ScriptParts.{at}
+use Rattle.boot_run.proofs.LoopOverTurns.{machines}
+use Rattle.boot_run.proofs.ScriptsJoined.{at}
 use Rattle.boot_run.proofs.ScriptsOfTurns.{goes_none}
 
 -- how a run is to end that has

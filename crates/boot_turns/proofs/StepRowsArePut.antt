@@ -19,7 +19,7 @@ use Rattle.boot_turns.specs.Entries.{IsPlaced, call_ends, turn_begins, return_en
 use Rattle.boot_turns.specs.Returns.{returned, notes_on}
 use Rattle.boot_turns.specs.JournalText.{steps_after}
 use Rattle.boot_turns.specs.Tracing.{ReturnTold, followed, ended_kept, kept_after}
-use Rattle.boot_turns.proofs.CopiedRows.{copy_rows, puts_first, puts_length, copies_tell, left_is}
+use Rattle.boot_turns.proofs.CopiedRowsArePut.{copy_rows, puts_first, puts_length, copies_tell, left_is}
 
 -- the entries of a primitive that has copied words to the user
 pub copy_is : (u : ℕ) (e : Entered) (answer : ℕ) (words : List ℕ) → answer ≡ 1 → slice_index e.arguments 2 ≡ u → e.primitive ≡ 6 →

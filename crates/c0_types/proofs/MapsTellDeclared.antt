@@ -26,8 +26,8 @@ use Rattle.c0_types.specs.declared.space.UnitNames.{UnitNames}
 use Rattle.c0_types.specs.Known.{TellUnit, declarations_env}
 use Rattle.c0_types.specs.Parts.{headed_functions, is_plain_function}
 use Rattle.c0_types.specs.Source.{read_function, read_unit}
-use Rattle.c0_types.proofs.BodiesScope.{numbered_by_view, numbered_typed, typed_by_views}
-use Rattle.c0_types.proofs.UnitHeadings.{all_at}
+use Rattle.c0_types.proofs.ScopeIsDeclared.{numbered_by_view, numbered_typed, typed_by_views}
+use Rattle.c0_types.proofs.HeadingsInTurn.{all_at}
 use Rattle.c0_types.proofs.UnitResolved.{signatures_headed}
 
 -- what is plain of a unit, part by part

@@ -18,11 +18,11 @@ use Rattle.cvm_model.specs.Stands.{Site, UserFits, CoreFits, RunningRelation}
 use Rattle.layer_contract.specs.Layer.{Linked, Starts, AfterReset}
 use Rattle.layer_contract.specs.Follows.{site_of, loaded, SystemFits}
 use Rattle.layer_contract.specs.Samples.{plain_word, plain_layer, spread_word, spread_map, spread_system, ASpreadStateStands}
-use Rattle.layer_contract.proofs.ResetState.{reset_stands}
-use Rattle.layer_contract.proofs.LoadedState.{index_word, loaded_resets}
+use Rattle.layer_contract.proofs.ResetStandsForStart.{reset_stands}
+use Rattle.layer_contract.proofs.LoadedTakesReset.{index_word, loaded_resets}
 use Rattle.layer_contract.proofs.RelationExists.{plain_length, plain_at, plain_linked, no_cpu_fits, blank, blank_page}
-use Rattle.layer_contract.proofs.SpreadPages.{pages_spread, are_spread}
-use Rattle.layer_contract.proofs.SpreadState.{spread_memory, low, at, spread_stands}
+use Rattle.layer_contract.proofs.SpreadPagesStand.{pages_spread, are_spread}
+use Rattle.layer_contract.proofs.SpreadStateStands.{spread_memory, low, at, spread_stands}
 
 -- the words of a user, filled up to whole pages
 padded : (ws : List ℕ) → length (first_flat ws).words ≡ next_page (length ws)

@@ -27,7 +27,7 @@ use Rattle.boot_run.specs.RunCalls.{run_at, of_load, LoadCalls, of_end, RestCall
 use Rattle.boot_run.specs.RunScript.{rest_script, run_script}
 use Rattle.boot_run.specs.Closing.{opening_script}
 use Rattle.boot_run.specs.TurnCalls.{run_around, ReadyAt, StandsReady}
-use Rattle.boot_run.proofs.ScriptParts.{at}
+use Rattle.boot_run.proofs.ScriptsJoined.{at}
 
 -- A LOAD that writes its pages
 module _ {D : Type 0} (told : sectors_of.Ghosts D) (d d1 : D) (pages wanted : Pages) (most need : ℕ) (pages_are : pages ≡ wanted) (most_is : most ≡ need) where

@@ -7,7 +7,7 @@ use Rattle.mips_table.specs.Fits.{IsWord}
 use Rattle.layer_map.specs.Map.{Map, MapInRange, heap_at, stack_at}
 use Rattle.real_layer.specs.Image.{interrupt_code, routines, code_joined, entries, zero_padded, layer_variables, block_words, blocks, second_code, layer_image}
 use Rattle.real_layer.proofs.LayerInRange.{all_fit, all_in, handler_fits, routines_fit}
-use Rattle.user_c0.proofs.WordRange.{code_words}
+use Rattle.user_c0.proofs.ImagesAreWords.{code_words}
 
 filled_words : (n : ℕ) (ws : List ℕ) → All IsWord ws → All IsWord (zero_padded n ws)
 filled_words n ws h = All-append IsWord ws (replicate (n - length ws) 0) h (All-replicate IsWord (n - length ws) 0 (omega arith))

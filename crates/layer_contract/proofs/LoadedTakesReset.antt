@@ -12,13 +12,13 @@ use Rattle.mips_table.specs.Flat.{Flat}
 use Rattle.mips_table.specs.Machine.{step, run}
 use Rattle.mips_table.specs.Fits.{Fits}
 use Rattle.layer_map.specs.Map.{Map, layer_words, code_at, globals_at, heap_at, stack_at, tables_at, frame_table_at, zero_frame_at, memory_words}
-use Rattle.layer_contract.proofs.MapBounds.{PartsApart}
+use Rattle.layer_contract.proofs.MapPartsBounded.{PartsApart}
 use Rattle.cvm_model.specs.Primitives.{no_flat}
 use Rattle.cvm_model.specs.Cvm.{System, map_of, first_core}
 use Rattle.cvm_model.specs.Paged.{pages_by}
 use Rattle.cvm_model.specs.Stands.{UserFits, input_room}
 use Rattle.layer_contract.specs.Follows.{loaded_memory, loaded_sector, loaded, SystemFits, LoadedResets}
-use Rattle.layer_contract.proofs.MapBounds.{apart_of}
+use Rattle.layer_contract.proofs.MapPartsBounded.{apart_of}
 
 -- a word of a list of words, or 0
 pub index_word : (ws : List ℕ) (j : ℕ) → All IsWord ws → IsWord (slice_index ws j)
