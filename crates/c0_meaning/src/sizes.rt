@@ -35,8 +35,8 @@ pub fn words_of(ty: &CType, unit: &Measured<'_>) -> u32
     }
 }
 
-// The words of declarations.
-fn decls_words(decls: &[Decl], unit: &Measured<'_>) -> u64
+/// The words of declarations: those of their types, which are sized.
+pub fn decls_words(decls: &[Decl], unit: &Measured<'_>) -> u64
     requires decls { All (λ d. IsSized (shapes (unit_view unit.now)) d.ty) (map decl_view decls.now) }
     requires few { length decls.now < 2 ^ 32 }
     ensures value { result ≡ all_words (shapes (unit_view unit.now)) (map typed_of (map decl_view decls.now)) }

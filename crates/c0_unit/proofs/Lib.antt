@@ -1,4 +1,3 @@
-pub mod DeclaredWords
 pub mod OneFunctionMore
 pub mod FlatRun
 pub mod FunctionsInOrder

@@ -3,12 +3,18 @@ use Rattle.std.proofs.Common.{◌≡◌, ◌≤◌, List, map, subst, sym, ap, �
 use Rattle.std.specs.List.{All}
 use Rattle.c0_tree.specs.declared.tree.Decl.{Decl}
 use Rattle.c0_tree.specs.declared.tree.Unit.{Unit as Source}
+use Rattle.c0_tree.specs.Tree.{CUnit}
+use Rattle.c0_tree.specs.Primitives.{CPrimitive}
 use Rattle.c0_tree.specs.View.{decl_view, unit_view}
 use Rattle.c0_meaning.specs.Env.{typed_of}
 use Rattle.c0_meaning.specs.Sound.{shapes, IsSized, global_words}
 use Rattle.c0_meaning.specs.Words.{all_words}
-use Rattle.c0_unit.proofs.DeclaredWords.{few_words}
+use Rattle.c0_meaning.specs.Typed.{UnitsAreFaultless}
+use Rattle.c0_meaning.specs.Unit.{IsWellFormed}
 use Rattle.c0_unit.proofs.globals.global_words.Goals as goal
+
+few_words : UnitsAreFaultless → (primitives : List CPrimitive) (u : CUnit) → IsWellFormed primitives u → global_words u ≤ 262144
+few_words law primitives u w = ((law primitives u).1 w.typed).words
 
 pub decls_words-requires-clause-decls : goal.decls_words-requires-clause-decls
 decls_words-requires-clause-decls c =
