@@ -1,6 +1,5 @@
 pub mod NumbersReadBack
 pub mod TextCuts
-pub mod PrefixLengths
 pub mod FormLookup
 pub mod FieldReadings
 pub mod LabelsAtStart

@@ -18,7 +18,7 @@ use Rattle.mips_asm.specs.Line.{bad_byte, out_of_range, nothing, word, word_dire
 use Rattle.mips_asm.specs.Assembled.{labels}
 use Rattle.mips_asm.specs.Listing.{operand_text, listed_operands, operands, line_for}
 use Rattle.mips_asm.specs.Back.{ReadsBack}
-use Rattle.mips_asm.proofs.PrefixLengths.{both, prefix_len_all}
+use Rattle.cvm_text.proofs.FrontsOfDigits.{both, prefix_len_all}
 use Rattle.mips_asm.proofs.OperandsStayWhole.{token, all_imply, all_append, front_len, not_blank, trim_blank}
 use Rattle.mips_asm.proofs.OperandsBack.{AllSmall, written_token, none_at}
 use Rattle.mips_asm.proofs.RowsBack.{row_back, named_row, in_mnemonic, mnemonic_bytes, mnemonic_some, operands_small}

@@ -15,7 +15,7 @@ use Rattle.std.proofs.lemmas.Bool.Decides.{nat_tests}
 use Rattle.mips_asm.specs.Number.{number_value, is_decimal, decimal_number, hexadecimal_number, is_name, in_name, begins_name}
 use Rattle.mips_asm.specs.Operand.{adds, out, signed_operand, unsigned, register, numbered}
 use Rattle.mips_asm.specs.Listing.{signed_text}
-use Rattle.mips_asm.proofs.PrefixLengths.{both}
+use Rattle.cvm_text.proofs.FrontsOfDigits.{both}
 use Rattle.mips_asm.proofs.OperandsStayWhole.{all_imply}
 
 digits_pass : (ds : List ℕ) → AllDigits 10 ds → list_all is_ascii_digit ds ≡ true

@@ -20,7 +20,7 @@ use Rattle.mips_asm.specs.Line.{word, with_reading, with_operands, operand_texts
 use Rattle.mips_asm.specs.Listing.{operand_text, listed_operands, signed_text}
 use Rattle.mips_asm.proofs.OperandsStayWhole.{token, all_imply, all_append, front_len, digit_token, not_blank, trim_token, trim_blank}
 use Rattle.mips_asm.proofs.NumbersBack.{signed_back, unsigned_back, register_back, special_back, decimal_digits, decimal_some, decimal_no_name}
-use Rattle.mips_asm.proofs.PrefixLengths.{both}
+use Rattle.cvm_text.proofs.FrontsOfDigits.{both}
 use Rattle.std.proofs.lemmas.List.Folds.{list_all-append}
 use Rattle.mips_asm.proofs.NumbersReadBack.{all_at}
 

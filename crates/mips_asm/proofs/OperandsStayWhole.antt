@@ -9,7 +9,7 @@ use Rattle.std.proofs.lemmas.List.Folds.{list_all-append, prefix_len-append}
 use Rattle.std.proofs.lemmas.List.Sums.{suffix_len_is}
 use Rattle.mips_asm.specs.Text.{trim, trim_end}
 use Rattle.mips_asm.proofs.NumbersReadBack.{all_at}
-use Rattle.mips_asm.proofs.PrefixLengths.{both, prefix_len_all}
+use Rattle.cvm_text.proofs.FrontsOfDigits.{both, prefix_len_all}
 
 -- a byte from `(` to `z` other than a comma and a colon
 abbrev pub token : ℕ → Bool

@@ -2,7 +2,7 @@
 use Rattle.std.proofs.Common.{sym, ◌∙◌, take_all, ap}
 use Rattle.std.specs.List.{list_all}
 use Rattle.mips_asm.specs.Text.{is_good_byte}
-use Rattle.mips_asm.proofs.PrefixLengths.{prefix_len_at, prefix_len_all}
+use Rattle.cvm_text.proofs.FrontsOfDigits.{prefix_len_at, prefix_len_all}
 use Rattle.mips_asm.proofs.line.good_len.Goals as goal
 
 pub returns-then-not-is_good_byte-clause-value : goal.returns-then-not-is_good_byte-clause-value

@@ -1,7 +1,7 @@
 -- The loop stops where the longest front without the byte ends.
 use Rattle.std.proofs.Common.{◌==◌, not, sym, ◌∙◌, take_all, ap, eq-eqb}
 use Rattle.std.specs.List.{list_all}
-use Rattle.mips_asm.proofs.PrefixLengths.{prefix_len_at, prefix_len_all}
+use Rattle.cvm_text.proofs.FrontsOfDigits.{prefix_len_at, prefix_len_all}
 use Rattle.mips_asm.proofs.operand.len_before.Goals as goal
 
 pub returns-then-c-byte-clause-value : goal.returns-then-c-byte-clause-value
