@@ -1,64 +1,28 @@
 -- What the number of a resolved struct's name finds.
-use Rattle.std.proofs.Common.{◌≡◌, inl, inr, ℕ, zero, suc, ◌+◌, ◌*◌, ◌%◌, ◌^◌, ◌<◌, ◌≤◌, List, [], ◌∷◌, length, map, Option, Some, None, refl, sym, ap, ◌∙◌, subst, arith, get_or, rules}
+use Rattle.std.proofs.Common.{◌≡◌, ℕ, zero, suc, ◌*◌, ◌%◌, ◌^◌, ◌≤◌, List, [], ◌∷◌, map, Option, Some, None, refl, sym, ap, ◌∙◌, subst, arith, get_or, rules}
 use Rattle.std.specs.Prelude.{slice_get}
 use Rattle.std.specs.List.{All}
-use Rattle.std.specs.Str.{bytes_eq}
-use Rattle.std.proofs.lemmas.Bool.{cases_Bool, cond-true, cond-false}
-use Rattle.std.proofs.lemmas.Slice.Eq.{bytes_eq-Decides}
-use Rattle.std.proofs.lemmas.List.{length-map}
 use Rattle.std.proofs.lemmas.Nat.{mul-mod_first}
 use Rattle.c0_tree.specs.Tree.{named, array, CName, CStruct, CFunction, CUnit}
-use Rattle.c0_tree.specs.View.{type_view, name_view, struct_view}
-use Rattle.c0_tree.specs.declared.tree.StructDef.{StructDef}
+use Rattle.c0_tree.specs.View.{type_view}
 use Rattle.c0_tree.specs.declared.tree.CType as rust
 use Rattle.c0_tree.specs.declared.tree.CType.TheFolds as folds
 use Rattle.c0_meaning.specs.Ty as ty
-use Rattle.c0_meaning.specs.Env.{Shape, Typed, first_named, shape_of, typed_of}
+use Rattle.c0_meaning.specs.Env.{Shape, Typed, shape_of, typed_of}
 use Rattle.c0_meaning.specs.Words.{words, shape_fields}
 use Rattle.c0_meaning.specs.Resolved.{IsResolved}
 use Rattle.c0_meaning.specs.Sizes.{capped, struct_sizes}
 use Rattle.c0_meaning.specs.Sound.{IsSizedStruct, AreSized, shapes}
 use Rattle.c0_typed.specs.Seen.{env_at}
+use Rattle.c0_meaning.proofs.SearchByName.{found_there, found_name, got_mapped}
 use Rattle.c0_meaning.specs.Offsets.{offsets, struct_offsets}
 use Rattle.c0_meaning.specs.TypedState.{types_of}
-
-pub view_named : (x : _) → type_view (rust.Named x) ≡ named (name_view x)
-view_named x = search (rules, folds.the_lemmas)
 
 pub view_array : (t : _) (n : _) → type_view (rust.Array t n) ≡ array (type_view t.value) n
 view_array t n = search (rules, folds.the_lemmas)
 
--- an element of a name, at a place, where the first place has the number k
-record IsFound {A : Type 0} (name : A → List ℕ) (xs : List A) (text : List ℕ) (k n : ℕ) (a : A) : Type 0 where
-  place : ℕ
-  numbered : n ≡ k + place
-  below : place < length xs
-  got : slice_get xs place ≡ Some a
-  same : name a ≡ text
-
-or_else : {B : Type 0} → B → Option B → B
-or_else d None = d
-or_else d (Some b) = b
-
 some_same : {B : Type 0} (x y : B) → Some x ≡ Some y → x ≡ y
-unfolding or_else
-some_same x y h = ap (or_else x) h
-
-found : {A : Type 0} (name : A → List ℕ) (xs : List A) (text : List ℕ) (k n : ℕ) (a : A) → first_named name text k xs ≡ Some (n, a) → IsFound name xs text k n a
-found name [] text k n a h = cc
-found {A} name (x ∷ rest) text k n a h =
-    elim (cases_Bool (bytes_eq (name x) text)) [
-      | inl e ↦
-          let v : ◌≡◌ {A = Option (ℕ × A)} (Some (k, x)) (Some (n, a)) = sym (cond-true (bytes_eq (name x) text) (Some (k, x)) (first_named name text (suc k) rest) e) ∙ h in
-          let pair : ◌≡◌ {A = ℕ × A} (k, x) (n, a) = some_same {B = ℕ × A} (k, x) (n, a) v in
-          let w : k ≡ n = ap (λ (p : ℕ × A). p.0) pair in
-          let y : x ≡ a = ap (λ (p : ℕ × A). p.1) pair in
-          record { place = 0; numbered = omega arith; below = omega arith; got = ap Some y; same = sym (ap name y) ∙ (bytes_eq-Decides (name x) text).0 e }
-      | inr e ↦
-          let v : ◌≡◌ {A = Option (ℕ × A)} (first_named name text (suc k) rest) (Some (n, a)) = sym (cond-false (bytes_eq (name x) text) (Some (k, x)) (first_named name text (suc k) rest) e) ∙ h in
-          let f = found name rest text (suc k) n a v in
-          record { place = suc f.place; numbered = omega arith; below = omega arith; got = f.got; same = f.same }
-    ]
+some_same x y h = cc
 
 -- a struct among structs, whose shape is this
 record IsAt (us : List CStruct) (n : ℕ) (s : Shape) : Type 0 where
@@ -76,16 +40,6 @@ all_at P [] n x h e = cc
 all_at P (y ∷ xs) zero x h e = subst P (some_same y x e) (h 0 y (omega arith))
 all_at P (y ∷ xs) (suc n) x h e = all_at P xs n x (λ i d below. h (suc i) d (omega arith)) e
 
-mapped_at : {A B : Type 0} (f : A → B) (xs : List A) (n : ℕ) (x : A) → slice_get xs n ≡ Some x → slice_get (map f xs) n ≡ Some (f x)
-mapped_at f [] n x h = cc
-mapped_at f (y ∷ xs) zero x h = ap (λ z. Some (f z)) (some_same y x h)
-mapped_at f (y ∷ xs) (suc n) x h = mapped_at f xs n x h
-
-below_length : {A : Type 0} (xs : List A) (n : ℕ) (x : A) → slice_get xs n ≡ Some x → n < length xs
-below_length [] n x h = cc
-below_length (y ∷ xs) zero x h = omega arith
-below_length (y ∷ xs) (suc n) x h = let r = below_length xs n x h in omega arith
-
 -- the struct of a resolved name, by its number
 record IsStruct (us : List CStruct) (x : CName) : Type 0 where
   at : CStruct
@@ -94,21 +48,16 @@ record IsStruct (us : List CStruct) (x : CName) : Type 0 where
 
 struct_of : (us : List CStruct) (x : CName) → IsResolved (map shape_of us) (named x) → IsStruct us x
 struct_of us x r =
-    let f = found (λ (s : Shape). s.text) (map shape_of us) x.text 0 x.number r.1.0 r.1.1 in
-    let e : f.place ≡ x.number = omega arith in
-    let a = at_shape us x.number r.1.0 (subst (λ (i : ℕ). slice_get (map shape_of us) i ≡ Some r.1.0) e f.got) in
-    record { at = a.at; got = a.got; same = ap (λ (s : Shape). s.text) a.shape ∙ f.same }
-
--- its number is that of a struct
-pub struct_below : (us : List CStruct) (x : CName) → IsResolved (map shape_of us) (named x) → x.number < length us
-struct_below us x r = let s = struct_of us x r in below_length us x.number s.at s.got
+    let text : Shape → List ℕ = λ s. s.text in
+    let a = at_shape us x.number r.1.0 (found_there text (map shape_of us) x.text x.number r.1.0 r.1.1) in
+    record { at = a.at; got = a.got; same = ap text a.shape ∙ found_name text (map shape_of us) x.text x.number r.1.0 r.1.1 }
 
 -- its words, which are no more than may be
 pub struct_words_are : (us : List CStruct) (x : CName) (w : ℕ) → AreSized us → IsResolved (map shape_of us) (named x) → slice_get (struct_sizes (map shape_of us)) x.number ≡ Some w → w ≡ words (map shape_of us) (ty.named x.text)
 struct_words_are us x w sized r h =
     let s = struct_of us x r in
     let z = all_at (IsSizedStruct (map shape_of us)) us x.number s.at sized s.got in
-    let there = mapped_at (λ (t : Shape). capped (map shape_of us) (ty.named t.text)) (map shape_of us) x.number (shape_of s.at) (mapped_at shape_of us x.number s.at s.got) in
+    let there = got_mapped (λ (t : Shape). capped (map shape_of us) (ty.named t.text)) (map shape_of us) x.number (shape_of s.at) (got_mapped shape_of us x.number s.at s.got) in
     let e : w ≡ capped (map shape_of us) (ty.named s.at.name.text) = some_same w _ (sym h ∙ there) in
     let small : words (map shape_of us) (ty.named s.at.name.text) ≤ 1048576 = z.small in
     let f : capped (map shape_of us) (ty.named s.at.name.text) ≡ words (map shape_of us) (ty.named s.at.name.text) = omega arith in
@@ -121,7 +70,7 @@ fields_begin us x lists sized r told =
     let s = struct_of us x r in
     let z = all_at (IsSizedStruct (map shape_of us)) us x.number s.at sized s.got in
     let fields : map typed_of s.at.fields ≡ shape_fields (map shape_of us) x.text = sym z.first ∙ ap (shape_fields (map shape_of us)) s.same in
-    let list : get_or lists x.number [] ≡ struct_offsets (map shape_of us) s.at = ap (λ (l : List (List ℕ)). get_or l x.number []) told ∙ got_is _ x.number _ (mapped_at (struct_offsets (map shape_of us)) us x.number s.at s.got) in
+    let list : get_or lists x.number [] ≡ struct_offsets (map shape_of us) s.at = ap (λ (l : List (List ℕ)). get_or l x.number []) told ∙ got_is _ x.number _ (got_mapped (struct_offsets (map shape_of us)) us x.number s.at s.got) in
     list ∙ ap (λ (ds : List Typed). offsets (map shape_of us) (types_of ds)) fields
   where
     got_is : (xs : List (List ℕ)) (n : ℕ) (v : List ℕ) → slice_get xs n ≡ Some v → get_or xs n [] ≡ v
@@ -134,10 +83,6 @@ pub array_bytes : (b w n : ℕ) → b ≡ 4 * w % 2 ^ 32 → b * n % 2 ^ 32 ≡ 
 array_bytes b w n h =
     let e : 4 * w * n ≡ 4 * (n * w) = grind arith in
     ap (λ (k : ℕ). k * n % 2 ^ 32) h ∙ mul-mod_first (4 * w) n (2 ^ 32) ∙ ap (λ (k : ℕ). k % 2 ^ 32) e
-
--- the same of the structs as the source has them
-pub struct_count : (items : List StructDef) (x : CName) → IsResolved (map shape_of (map struct_view items)) (named x) → x.number < length items
-struct_count items x r = let e = length-map items struct_view in let b = struct_below (map struct_view items) x r in omega arith
 
 -- the structs of what names stand for in a function are those of the unit
 pub env_structs : (u : CUnit) (f : Option CFunction) → (env_at u f).structs ≡ shapes u

@@ -3,11 +3,12 @@ use Rattle.c0_tree.specs.View.{name_view, unit_view}
 use Rattle.c0_meaning.specs.Ty as ty
 use Rattle.c0_meaning.specs.Sound.{shapes}
 use Rattle.c0_meaning.specs.Words.{words}
-use Rattle.c0_typed.proofs.StructsByNumber.{struct_words_are, struct_count}
+use Rattle.c0_meaning.proofs.SizedTypes.{struct_below}
+use Rattle.c0_typed.proofs.StructsByNumber.{struct_words_are}
 use Rattle.c0_typed.proofs.bytes.struct_bytes.Goals as goal
 
 pub struct_words-requires : goal.struct_words-requires
-struct_words-requires c = struct_count c.args.unit.now.structs.items (name_view c.args.name.now) c.requires
+struct_words-requires c = struct_below c.args.unit.now.structs.items (name_view c.args.name.now) c.requires
 
 pub returns : goal.returns
 returns c =

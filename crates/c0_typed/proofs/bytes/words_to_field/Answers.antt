@@ -4,7 +4,8 @@ use Rattle.c0_tree.specs.View.{name_view, unit_view, struct_view}
 use Rattle.c0_meaning.specs.Offsets.{struct_offsets}
 use Rattle.c0_meaning.specs.Sound.{shapes}
 use Rattle.c0_typed.specs.Typed.{entry}
-use Rattle.c0_typed.proofs.StructsByNumber.{struct_count, fields_begin}
+use Rattle.c0_meaning.proofs.SizedTypes.{struct_below}
+use Rattle.c0_typed.proofs.StructsByNumber.{fields_begin}
 use Rattle.c0_typed.proofs.bytes.words_to_field.Goals as goal
 
 pub index-requires : goal.index-requires
@@ -15,7 +16,7 @@ index-requires c =
     let two = ap length c.args.unit.now.fields_are in
     let three = length-map u.structs (struct_offsets (shapes u)) in
     let four = length-map structs struct_view in
-    let below = struct_count structs (name_view c.args.owner.now) c.requires in
+    let below = struct_below structs (name_view c.args.owner.now) c.requires in
     omega (arith, one, two, three, four, below)
 
 pub returns : goal.returns
@@ -27,7 +28,7 @@ returns c =
     let two = ap length c.args.unit.now.fields_are in
     let three = length-map u.structs (struct_offsets (shapes u)) in
     let four = length-map structs struct_view in
-    let below = struct_count structs (name_view c.args.owner.now) c.requires in
+    let below = struct_below structs (name_view c.args.owner.now) c.requires in
     let there : c.args.owner.now.number < length fields = omega (arith, one, two, three, four, below) in
     let item : c.deref.result.now ≡ get_or (map (λ v. v.items) fields) c.args.owner.now.number [] =
     c.deref.ensures.value ∙ ap (λ v. v.items) c.index.ensures ∙ sym (get_or-map (λ v. v.items) fields c.args.owner.now.number c.index.result.now [] there) in
