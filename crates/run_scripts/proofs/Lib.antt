@@ -3,7 +3,6 @@ pub mod ResumeScripts
 pub mod EachHeadline
 mod SchedulesPromise
 mod LinkedAreWords
-pub mod FirstCores
 pub mod SystemsFollow
 pub mod AcceptedImages
 pub mod RunsStart

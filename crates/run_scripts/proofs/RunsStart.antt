@@ -37,8 +37,7 @@ use Rattle.run_scripts.specs.Boot.{booted, held_of, sectors_needed, steps_before
 use Rattle.boot_run.specs.SavedRuns.{IsDisk}
 use Rattle.run_scripts.specs.SessionRuns.{run_of}
 use Rattle.run_scripts.specs.Keys.{IsStarted}
-use Rattle.run_scripts.proofs.FirstCores.{its_map}
-use Rattle.run_scripts.proofs.SystemsFollow.{UnitLaws, IsWhole, range, same_map, site_laws, follows, words_are, long}
+use Rattle.run_scripts.proofs.SystemsFollow.{its_map, UnitLaws, IsWhole, range, same_map, site_laws, follows, words_are, long}
 use Rattle.run_scripts.proofs.SchedulesPromise.{rows_ordered, rows_fit}
 use Rattle.run_scripts.proofs.AcceptedImages.{IsAccepted}
 

@@ -1,42 +1,43 @@
 -- An accepted system follows its layer, whether it stands in memory or not.
 use Rattle.std.proofs.Common.{◌≡◌, ℕ, ◌+◌, ◌-◌, ◌*◌, ◌≤◌, List, ◌++◌, length, take, drop, refl, sym, ap, ap₂, ◌∙◌, subst, arith}
 use Rattle.std.specs.Prelude.{All}
-use Rattle.std.proofs.lemmas.List.{length-append, length-map}
+use Rattle.std.proofs.lemmas.List.{length-map}
 use Rattle.std.proofs.lemmas.List.Elements.{All-map, All-append}
-use Rattle.std.proofs.Math.Seq.{take-append_seam, drop-append_seam}
 use Rattle.masm.specs.declared.registers.CodeAddresses.{CodeAddresses}
 use Rattle.mips_table.specs.Encoding.{encoding}
 use Rattle.mips_table.specs.Fits.{IsWord}
-use Rattle.layer_map.specs.declared.params.Params.{Params}
-use Rattle.layer_map.specs.Map.{Map, MapInRange, ParamsInRange, layer_words, next_page}
+use Rattle.layer_map.specs.Map.{Map, MapInRange, ParamsInRange, layer_words}
 use Rattle.c0_tree.specs.Primitives.{kernel_primitives}
-use Rattle.c0_tree.specs.Tree.{CUnit}
 use Rattle.c0_meaning.specs.CallChain.{dispatch_number}
-use Rattle.c0_meaning.specs.Operators.{KernelFault, NullUse, Bounds, DivZero, StackOut}
 use Rattle.c0_meaning.specs.RunLaws.{ZeroHasWords}
 use Rattle.c0_meaning.specs.Typed.{UnitsAreFaultless}
 use Rattle.c0_meaning.specs.TypedState.{IsTypedState}
 use Rattle.c0_meaning.specs.Unit.{IsChecked}
-use Rattle.c0_expr_code.specs.Scope.{exit_number}
 use Rattle.c0_unit.specs.Code.{code_words, unit_code, unit_words}
-use Rattle.c0_unit.specs.Laws.{AreAddressesOf, StandsIn, UnitStands, UnitsAreShort, TreesHaveAddresses, UnitsStand}
-use Rattle.cvm_model.specs.Cvm.{map_of}
-use Rattle.cvm_model.specs.Kernel.{power_of}
-use Rattle.cvm_model.specs.KernelMeaning.{UnitsAreKernels, fault_of}
+use Rattle.c0_unit.specs.Laws.{UnitStands, UnitsAreShort, TreesHaveAddresses, UnitsStand}
+use Rattle.cvm_model.specs.Cvm.{Boot, map_of}
+use Rattle.cvm_model.specs.KernelMeaning.{UnitsAreKernels}
 use Rattle.cvm_model.specs.Stands.{Site}
 use Rattle.cvm_model.specs.TypedKernel.{UnitsStayTyped}
 use Rattle.layer_contract.specs.Follows.{Follows, MadeFor, site_of}
 use Rattle.layer_contract.specs.Layer.{Laws, Linked, site_with}
 use Rattle.real_layer.specs.Image.{layer_image}
 use Rattle.real_layer.specs.Laws.{ImageLaws, ImageLinked}
-use Rattle.unit_runs.specs.Placed.{CodeStandsAt, CodeStands}
 use Rattle.unit_runs.specs.Runs.{IsLinked, UnitsCallsFollow, UnitsRunOverLayers}
-use Rattle.unit_runs.proofs.FirstCore.{same_sizes}
+use Rattle.unit_runs.proofs.CompiledStands.{code_stands}
+use Rattle.unit_runs.proofs.FirstCore.{boot_with, core_fits, same_sizes, starts}
+use Rattle.unit_runs.proofs.WholeBoots.{count, front, map_with, rear}
 use Rattle.kernel_linker.specs.Accept.{ImageSystem}
-use Rattle.kernel_linker.specs.Linked.{pages_for, sizes_of}
+use Rattle.kernel_linker.specs.Linked.{map_for, pages_for, sizes_of}
 use Rattle.user_c0.proofs.ImagesAreWords.{code_words as words_fit}
-use Rattle.run_scripts.proofs.FirstCores.{its_boot, its_map, starts, core_fits}
 use Rattle.run_scripts.proofs.LinkedAreWords.{layer_words_fit}
+
+-- what is booted of an accepted system, and its map
+abbrev pub its_boot : ImageSystem → Boot
+its_boot s = boot_with s.unit s.params s.words s.users
+
+abbrev pub its_map : ImageSystem → Map
+its_map s = map_for s.unit s.params (length s.users)
 
 -- what the laws of units and of layers say
 pub record UnitLaws : Type 0 where
@@ -61,51 +62,6 @@ pub record IsWhole (s : ImageSystem) : Type 0 where
   pub short_users : All (λ words. length words ≤ 1024 * s.params.pages) s.users
   pub words : All (All IsWord) s.users
   pub linked : s.words ≡ layer_image (its_map s) (sizes_of s.users) ++ unit_words s.unit
-
-same_exit : (f : KernelFault) → 2058 + exit_number f ≡ 2057 + power_of (fault_of f)
-same_exit NullUse = refl
-same_exit Bounds = refl
-same_exit DivZero = refl
-same_exit StackOut = refl
-
-as_piece : (u : CUnit) (first k : ℕ) (piece : List _) → StandsIn u first k piece → CodeStandsAt (unit_code u first) k piece
-as_piece u first k piece s = (s.before, s.after, s.is, s.from, s.behind)
-
-code_stands : UnitsStand → (u : CUnit) (p : CodeAddresses) (y : Site) → IsChecked u → AreAddressesOf u (dispatch_number u) p → IsLinked u y → CodeStands u p y (unit_code u (dispatch_number u))
-code_stands stand u p y checked addresses l =
-    let s : UnitStands u (dispatch_number u) p = stand kernel_primitives u checked.well_formed (dispatch_number u) p addresses in
-    record {
-      checked = checked;
-      range = l.range;
-      code_words = l.code_words ∙ sym s.words;
-      global_words = l.global_words;
-      long = l.long;
-      linked = l.code;
-      in_range = s.in_range;
-      globals = addresses.globals_at ∙ ap (λ n. 4 * next_page (layer_words + n)) (sym l.code_words);
-      exits = λ f. s.exits f ∙ same_exit f;
-      primitives = s.primitives;
-      below = s.below;
-      rest = s.rest;
-      entry = s.entry;
-      begins = s.begins;
-      functions = λ n f is. as_piece u (dispatch_number u) _ _ (s.functions n f is);
-      new_object = as_piece u (dispatch_number u) _ _ s.new_object;
-    }
-
--- words that begin with a layer's
-module _ (image code words : List ℕ) (whole : length image ≡ layer_words) (linked : words ≡ image ++ code) where
-  count : length words ≡ layer_words + length code
-  count = ap (λ (ws : List ℕ). length ws) linked ∙ length-append image code ∙ ap (λ n. n + length code) whole
-
-  front : take layer_words words ≡ image
-  front = ap (λ (ws : List ℕ). take layer_words ws) linked ∙ ap (λ n. take n (image ++ code)) (sym whole) ∙ take-append_seam image code
-
-  rear : drop layer_words words ≡ code
-  rear = ap (λ (ws : List ℕ). drop layer_words ws) linked ∙ ap (λ n. drop n (image ++ code)) (sym whole) ∙ drop-append_seam image code
-
-abbrev map_with : Params → ℕ → ℕ → ℕ → Map
-map_with p users code globals = record { params = p; users = users; code_words = code; global_words = globals }
 
 module _ (law : UnitLaws) (s : ImageSystem) (w : IsWhole s) where
   stands : (p : CodeAddresses) × UnitStands s.unit (dispatch_number s.unit) p
@@ -149,8 +105,8 @@ module _ (law : UnitLaws) (s : ImageSystem) (w : IsWhole s) where
     same_sizes = same_sizes s.users;
     words = w.linked ∙ ap (λ (ws : List ℕ). layer_image (its_map s) (sizes_of s.users) ++ ws) (sym behind);
     users = w.short_users;
-    starts = λ input longest. starts s input longest;
-    fits = λ input longest room. core_fits law.zeros s input longest w.words w.short_users room;
+    starts = λ input longest. starts s.unit s.params s.words s.users input longest;
+    fits = λ input longest room. core_fits law.zeros s.unit s.params s.words s.users (length s.users) (length (unit_words s.unit)) refl input longest w.words w.short_users room;
   }
 
   at_site : IsLinked s.unit (site_of (its_boot s))

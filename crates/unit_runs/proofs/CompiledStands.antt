@@ -26,7 +26,8 @@ same_exit StackOut = refl
 as_piece : (u : CUnit) (first k : ℕ) (piece : List _) → StandsIn u first k piece → CodeStandsAt (unit_code u first) k piece
 as_piece u first k piece s = (s.before, s.after, s.is, s.from, s.behind)
 
-code_stands : UnitsStand → (u : CUnit) (p : CodeAddresses) (y : Site) → IsChecked u → AreAddressesOf u (dispatch_number u) p → IsLinked u y → CodeStands u p y (unit_code u (dispatch_number u))
+-- its code stands at the addresses of its functions, exits and routines
+pub code_stands : UnitsStand → (u : CUnit) (p : CodeAddresses) (y : Site) → IsChecked u → AreAddressesOf u (dispatch_number u) p → IsLinked u y → CodeStands u p y (unit_code u (dispatch_number u))
 code_stands stand u p y checked addresses l =
     let s : UnitStands u (dispatch_number u) p = stand kernel_primitives u checked.well_formed (dispatch_number u) p addresses in
     record {

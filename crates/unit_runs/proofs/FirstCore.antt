@@ -5,23 +5,22 @@ use Rattle.std.proofs.lemmas.List.{length-append, length-map, length-replicate}
 use Rattle.std.proofs.lemmas.List.Elements.{All-nil, All-cons, All-append, All-map, All-replicate}
 use Rattle.mips_table.specs.Fits.{IsWord, CpuFits}
 use Rattle.mips_table.specs.Machine.{zero_cpu}
-use Rattle.layer_map.specs.Map.{next_page}
-use Rattle.c0_tree.specs.View.{unit_view}
+use Rattle.layer_map.specs.Map.{Map, next_page}
+use Rattle.layer_map.specs.declared.params.Params.{Params}
+use Rattle.c0_tree.specs.Tree.{CUnit}
 use Rattle.c0_meaning.specs.Ty.{Ty}
 use Rattle.c0_meaning.specs.Ty as ty
 use Rattle.c0_meaning.specs.Env.{Typed, Shape, typed_of}
 use Rattle.c0_meaning.specs.Words.{shape_fields, holds, all_words}
 use Rattle.c0_meaning.specs.RunLaws.{ZeroHasWords, all_scalars}
-use Rattle.c0_meaning.specs.Sound.{shapes}
+use Rattle.c0_meaning.specs.Sound.{shapes, global_words}
 use Rattle.c0_meaning.specs.Value.{Location, Value, group, empty, repeated, zero_with, zeros_with, zero_within, zeros_of}
 use Rattle.cvm_model.specs.Kernel.{Core, flat, flats}
-use Rattle.cvm_model.specs.Cvm.{first_flat, first_core}
+use Rattle.cvm_model.specs.Cvm.{Boot, first_flat, first_core}
+use Rattle.cvm_model.specs.KernelMeaning.{kernel_meaning}
 use Rattle.cvm_model.specs.Primitives.{pages_of}
 use Rattle.cvm_model.specs.Stands.{UserFits, CoreFits, input_room}
-use Rattle.layer_contract.specs.declared.boot.Boot.{Boot as Booted}
-use Rattle.layer_contract.specs.Boots.{boot_of}
 use Rattle.layer_contract.specs.Layer.{Starts}
-use Rattle.unit_runs.specs.Follows.{user_words, map_of_boot}
 
 -- the words of values at their start are 0
 abbrev AreZeros : List ℕ → Type 0
@@ -87,25 +86,33 @@ flat_fits most ws all few =
 flats_fit : (most : ℕ) (users : List (List ℕ)) → All (All IsWord) users → All (λ words. length words ≤ 1024 * most) users → All (UserFits most) (map first_flat users)
 flats_fit most users all few = All-map (UserFits most) first_flat users (λ i d lt. flat_fits most (get_or users i d) (all i d lt) (few i d lt))
 
--- the state at the start
-abbrev start : Booted → List ℕ → ℕ → Core
-start b input longest = first_core (record { boot = boot_of b; input = input; longest = longest })
+-- what is booted of a unit, and its state at the start
+abbrev pub boot_with : CUnit → Params → (words : List ℕ) → (users : List (List ℕ)) → Boot
+boot_with u params words users = record { params = params; meaning = kernel_meaning u params; words = words; users = users }
 
-pub starts : (b : Booted) (input : List ℕ) (longest : ℕ) → Starts (start b input longest)
-starts b input longest = record {
-  globals = λ address. globals_zeros address (shapes (unit_view b.unit)) (map typed_of (unit_view b.unit).globals);
+abbrev start : CUnit → Params → (words : List ℕ) → (users : List (List ℕ)) → List ℕ → ℕ → Core
+start u params words users input longest = first_core (record { boot = boot_with u params words users; input = input; longest = longest })
+
+-- a map for it, of so many users and words of code
+abbrev map_with : CUnit → Params → ℕ → ℕ → Map
+map_with u params count code = record { params = params; users = count; code_words = code; global_words = global_words u }
+
+pub starts : (u : CUnit) (params : Params) (words : List ℕ) (users : List (List ℕ)) (input : List ℕ) (longest : ℕ) → Starts (start u params words users input longest)
+starts u params words users input longest = record {
+  globals = λ address. globals_zeros address (shapes u) (map typed_of u.globals);
   heap = refl;
-  users = All-map (λ f. f.cpu ≡ zero_cpu) first_flat (user_words b) (λ i d lt. refl);
+  users = All-map (λ f. f.cpu ≡ zero_cpu) first_flat users (λ i d lt. refl);
   current = refl;
   log = refl;
 }
 
-pub core_fits : ZeroHasWords → (b : Booted) (input : List ℕ) (longest : ℕ) → All (All IsWord) (user_words b) → All (λ words. length words ≤ 1024 * b.params.pages) (user_words b)
-    → length input ≤ input_room → CoreFits (map_of_boot b) (start b input longest)
-core_fits law b input longest all few room = record {
-  users = length-map (user_words b) first_flat ∙ length-map b.users.items (λ u. u.items);
-  each = flats_fit b.params.pages (user_words b) all few;
-  globals = zeros_words law (shapes (unit_view b.unit)) (map typed_of (unit_view b.unit).globals);
+pub core_fits : ZeroHasWords → (u : CUnit) (params : Params) (words : List ℕ) (users : List (List ℕ)) (count code : ℕ) → length users ≡ count → (input : List ℕ) (longest : ℕ)
+    → All (All IsWord) users → All (λ words. length words ≤ 1024 * params.pages) users → length input ≤ input_room
+    → CoreFits (map_with u params count code) (start u params words users input longest)
+core_fits law u params words users count code so_many input longest all few room = record {
+  users = length-map users first_flat ∙ so_many;
+  each = flats_fit params.pages users all few;
+  globals = zeros_words law (shapes u) (map typed_of u.globals);
   heap = omega arith;
   used = refl;
   frames = refl;

@@ -49,19 +49,19 @@ words_count law s checked =
     let p = law.placed kernel_primitives s checked.well_formed first in
     length-map (unit_code (unit_view s) first) encoding ∙ (law.stand kernel_primitives (unit_view s) checked.well_formed first p.0 p.1).words
 
--- two maps of the same parts
-abbrev map_with : Params → ℕ → ℕ → ℕ → Map
+-- a map by its parts
+abbrev pub map_with : Params → ℕ → ℕ → ℕ → Map
 map_with p users code globals = record { params = p; users = users; code_words = code; global_words = globals }
 
 -- words that begin with a layer's
 module _ (image code words : List ℕ) (whole : length image ≡ layer_words) (linked : words ≡ image ++ code) where
-  count : length words ≡ layer_words + length code
+  pub count : length words ≡ layer_words + length code
   count = ap (λ (ws : List ℕ). length ws) linked ∙ length-append image code ∙ ap (λ n. n + length code) whole
 
-  front : take layer_words words ≡ image
+  pub front : take layer_words words ≡ image
   front = ap (λ (ws : List ℕ). take layer_words ws) linked ∙ ap (λ n. take n (image ++ code)) (sym whole) ∙ take-append_seam image code
 
-  rear : drop layer_words words ≡ code
+  pub rear : drop layer_words words ≡ code
   rear = ap (λ (ws : List ℕ). drop layer_words ws) linked ∙ ap (λ n. drop n (image ++ code)) (sym whole) ∙ drop-append_seam image code
 
 module _ (law : UnitLaws) (image sizes : List ℕ) (b : Booted) (w : IsWhole image sizes (map_of_boot b) b) where
@@ -96,8 +96,9 @@ module _ (law : UnitLaws) (image sizes : List ℕ) (b : Booted) (w : IsWhole ima
       same_sizes = w.sizes_are ∙ same_sizes (user_words b);
       words = w.linked ∙ ap (λ (ws : List ℕ). image ++ ws) (sym (rear image (unit_words unit) b.words.items linked.whole w.linked));
       users = w.short_users;
-      starts = λ input longest. starts b input longest;
-      fits = λ input longest room. core_fits law.zeros b input longest w.words w.short_users room;
+      starts = λ input longest. starts unit b.params b.words.items (user_words b) input longest;
+      fits = λ input longest room. core_fits law.zeros unit b.params b.words.items (user_words b) (length b.users.items) (length (unit_words unit)) (length-map b.users.items (λ u. u.items))
+          input longest w.words w.short_users room;
     }
 
     at_site : IsLinked unit (site_of (boot_of b))
