@@ -1,12 +1,12 @@
 -- The sectors come to their frames, one a turn, and the ROM goes to word 0: why the linked words stand in memory when they run.
-use Rattle.std.proofs.Common.{◌≡◌, ◌≢◌, ℕ, suc, ◌+◌, ◌-◌, ◌*◌, ◌/◌, ◌%◌, ◌^◌, ◌<◌, ◌≤◌, nat_lt, bit_or, [], ◌∷◌, ◌++◌, length, refl, sym, ap, ◌∙◌, subst, ⊎_elim, inl, inr, arith, eq-eqb, ne_eqb, lt-ltb}
-use Rattle.std.proofs.lemmas.Bool.{cases_eq, cond-true, cond-false}
-use Rattle.std.proofs.lemmas.Nat.{or_shifted}
+use Rattle.std.proofs.Common.{◌≡◌, ◌≢◌, ℕ, suc, ◌+◌, ◌-◌, ◌*◌, ◌/◌, ◌%◌, ◌^◌, ◌<◌, ◌≤◌, [], ◌∷◌, ◌++◌, length, refl, sym, ap, ◌∙◌, subst, ⊎_elim, inl, inr, arith, eq-eqb}
+use Rattle.std.proofs.lemmas.Bool.{cases_eq, cond-true}
 use Rattle.std.proofs.Math.Nat.{mul-suc}
 use Rattle.masm.specs.Blocks.{loop_code}
 use Rattle.mips_table.specs.declared.inst.Inst.TheVariants.{J}
-use Rattle.mips_table.specs.Arith.{extended}
 use Rattle.mips_table.specs.Code.{Contents, Behind, World, Sound, Does, put, at_with}
+use Rattle.mips_table.proofs.PutsChangeOneWord.{put_other}
+use Rattle.mips_table.proofs.NumbersInHalves.{const_is, small_is}
 use Rattle.masm.specs.Says.{Gives}
 use Rattle.masm.specs.Laws.{From, RunsCompose}
 use Rattle.masm.specs.CodeAddresses.{CallsLead}
@@ -18,19 +18,9 @@ use Rattle.boot_rom.specs.Code.{set_boot_range_code, load_sector_code, loading_c
 use Rattle.boot_rom.specs.declared.rom.TheConstants.{NEXT_SECTOR, ZERO_REGISTERS}
 use Rattle.boot_rom.specs.Laws.{RomLoad, MayLoad, FramesBrought, IsRomLoaded, load_steps, RomLoads, RomRuns}
 
-put_other : (m : ℕ → ℕ) (a v x : ℕ) → x ≢ a → put m a v x ≡ m x
-put_other m a v x ne = cond-false _ v (m x) (ne_eqb x a ne)
-
 -- a register that was 0, or becomes 0
 zeroed : (m : ℕ → ℕ) (a x : ℕ) → (x ≢ a → m x ≡ 0) → put m a 0 x ≡ 0
 zeroed m a x h = ⊎_elim (λ e. cond-true _ 0 (m x) (eq-eqb x a e)) (λ ne. put_other m a 0 x ne ∙ h ne) (cases_eq x a)
-
-small_is : (v : ℕ) → v < 32768 → extended v ≡ v
-small_is v lt = cond-true (nat_lt v (2 ^ 15)) v (v + (2 ^ 32 - 2 ^ 16)) (lt-ltb v (2 ^ 15) lt)
-
--- a number by its halves
-halves : (v : ℕ) → bit_or (v / 65536 * 2 ^ 16) (v % 65536) ≡ v
-halves v = or_shifted (v / 65536) 16 (v % 65536) (omega arith) ∙ omega arith
 
 module _ (w : World) (f : Sound w) (spared : RegistersStay) (swaps : SwapsIn w) (l : RomLoad) (c0 : Contents) (d0 : Behind) (may : MayLoad w l d0) where
   -- i sectors are in their frames, and the registers say what is left
@@ -143,7 +133,7 @@ module _ (w : World) (f : Sound w) (spared : RegistersStay) (swaps : SwapsIn w) 
       let few = may.few in
       from_straight w f (set_boot_range_code l.first l.count) (Gives (l.first / 65536 * 2 ^ 16) ∷ Gives l.first ∷ Gives 0 ∷ Gives l.count ∷ []) c0 d0 (Mid 0) refl may.idle
       (λ n. (
-        (refl, (halves l.first, (refl, (ap (λ e. (0 + e) % 2 ^ 32) (small_is l.count few) ∙ omega arith, tt)))),
+        (refl, (const_is l.first, (refl, (ap (λ e. (0 + e) % 2 ^ 32) (small_is l.count few) ∙ omega arith, tt)))),
         record {
           most = omega arith;
           sector = omega arith;

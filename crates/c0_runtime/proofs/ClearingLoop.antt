@@ -5,9 +5,10 @@ use Rattle.mips_table.specs.declared.inst.Inst.{Inst}
 use Rattle.mips_table.specs.declared.inst.Inst.TheVariants.{Sw, Addiu, Bne}
 use Rattle.mips_table.specs.Device.{Idle}
 use Rattle.mips_table.specs.Code.{put, Contents, Behind, World, Sound, at_with, Steps, CodeAt, RunLaws}
+use Rattle.mips_table.proofs.PutsChangeOneWord.{put_same, put_other}
 use Rattle.masm.specs.Says.{Gives, Writes}
 use Rattle.masm.specs.Laws.{RunsCompose, StraightRuns, JumpsLead}
-use Rattle.c0_runtime.proofs.RoutineSteps.{rests, one_step, put_same, put_other}
+use Rattle.c0_runtime.proofs.RoutineSteps.{rests, one_step}
 
 -- so many words from x on are 0, and all else but register 3 is as before
 pub record IsCleared (x size : ℕ) (c c' : Contents) : Type 0 where

@@ -1,14 +1,15 @@
 -- The entry of a kernel.
-use Rattle.std.proofs.Common.{◌≡◌, ℕ, ◌+◌, ◌*◌, ◌/◌, ◌%◌, ◌^◌, ◌<◌, ◌≤◌, [], ◌∷◌, refl, ◌∙◌, arith}
+use Rattle.std.proofs.Common.{◌≡◌, ℕ, ◌+◌, ◌*◌, ◌/◌, ◌^◌, ◌<◌, ◌≤◌, [], ◌∷◌, refl, ◌∙◌, arith}
 use Rattle.mips_table.specs.declared.inst.Inst.TheVariants.{Lui}
 use Rattle.mips_table.specs.Device.{Idle}
 use Rattle.mips_table.specs.Code.{put, Contents, Behind, World, at_with, Reaches, CodeAt}
+use Rattle.mips_table.proofs.PutsChangeOneWord.{put_other}
 use Rattle.masm.specs.Says.{Gives, Reads}
 use Rattle.masm.specs.Laws.{StraightRuns}
 use Rattle.c0_runtime.specs.Code.{startup_code, behind_first}
 use Rattle.layer_map.specs.declared.entries.TheConstants.{LEAVE}
 use Rattle.c0_runtime.specs.Laws.{RoutineReturns, StackIs, IsEntered, with_half, EntryRuns}
-use Rattle.c0_runtime.proofs.RoutineSteps.{moved, put_other}
+use Rattle.c0_runtime.proofs.RoutineSteps.{moved}
 use Rattle.c0_runtime.proofs.HiAndLoAnswer.{halves}
 
 -- the contents behind the entry

@@ -6,11 +6,12 @@ use Rattle.mips_table.specs.declared.inst.Inst.TheVariants.{Lw, Sw, Addu, Addiu,
 use Rattle.mips_table.specs.declared.effect.Effect.TheVariants.{Set}
 use Rattle.mips_table.specs.Arith.{flag}
 use Rattle.mips_table.specs.Code.{put, Contents, Behind, World, Sound, at_with, Steps, Reaches, CodeAt, RunLaws}
+use Rattle.mips_table.proofs.PutsChangeOneWord.{put_other}
 use Rattle.masm.specs.Says.{Gives, Reads, Writes}
 use Rattle.masm.specs.Laws.{RunsCompose, StraightRuns, JumpsLead}
 use Rattle.c0_runtime.specs.Code.{test_room_code, bump_heap_code, find_object_code, zero_object_code, new_routine}
 use Rattle.c0_runtime.specs.Laws.{RoutineCalled, RoutineReturns, ComesBackIn, HeapIs, IsAsked, IsRefused, ObjectMade, NewRuns}
-use Rattle.c0_runtime.proofs.RoutineSteps.{moved, rests, put_other, four_above, two_above, flag_set, flag_clear}
+use Rattle.c0_runtime.proofs.RoutineSteps.{moved, rests, four_above, two_above, flag_set, flag_clear}
 use Rattle.c0_runtime.proofs.ClearingLoop.{IsCleared, MayClear, clears}
 
 -- the test's straight part, and what is said of it

@@ -1,10 +1,10 @@
 -- Small steps that the proofs of the routines share: where a run ends, and registers and words that a write leaves.
-use Rattle.std.proofs.Common.{◌≡◌, ◌≢◌, ℕ, ◌<◌, ◌≤◌, ◌==◌, Bool, true, false, ap, ◌∙◌, subst, arith, eq-eqb, ne_eqb}
+use Rattle.std.proofs.Common.{◌≡◌, ◌≢◌, ℕ, ◌<◌, ◌≤◌, ◌==◌, Bool, true, false, ap, ◌∙◌, subst, arith}
 use Rattle.std.specs.Prelude.{not}
-use Rattle.std.proofs.lemmas.Bool.{cond-true, cond-false}
 use Rattle.mips_table.specs.Arith.{flag}
 use Rattle.mips_table.specs.Device.{Idle}
 use Rattle.mips_table.specs.Code.{put, Contents, Behind, World, CodeState, at_with, settle, Steps, Reaches}
+use Rattle.mips_table.proofs.PutsChangeOneWord.{put_other}
 use Rattle.masm.specs.Laws.{RunsCompose}
 
 -- the end of a run, by another number
@@ -24,12 +24,6 @@ one_step w runs n m c d c' d' ne r =
     let some = runs.elsewhere w 1 (at_with n c d) (at_with m c' d') ne r in let most = r.within in
     let one : r.steps ≡ 1 = omega (arith, some, most) in
     subst (λ k. Steps w k (at_with n c d) (at_with m c' d')) one r.run
-
-pub put_same : (m : ℕ → ℕ) (a v k : ℕ) → k ≡ a → put m a v k ≡ v
-put_same m a v k e = cond-true _ v (m k) (eq-eqb k a e)
-
-pub put_other : (m : ℕ → ℕ) (a v k : ℕ) → k ≢ a → put m a v k ≡ m k
-put_other m a v k ne = cond-false _ v (m k) (ne_eqb k a ne)
 
 -- a register above 5 is not one of those up to 5
 above : (m : ℕ → ℕ) (a v k : ℕ) → a ≤ 5 → 5 < k → put m a v k ≡ m k

@@ -7,13 +7,14 @@ use Rattle.mips_table.specs.declared.effect.Effect.TheVariants.{Set}
 use Rattle.mips_table.specs.Arith.{upper, lower, signed_product, signed_quotient, signed_remainder}
 use Rattle.mips_table.specs.Device.{Idle}
 use Rattle.mips_table.specs.Code.{put, Contents, Behind, World, Sound, at_with, Reaches, CodeAt}
+use Rattle.mips_table.proofs.PutsChangeOneWord.{put_other}
 use Rattle.masm.specs.Says.{Gives, Widens}
 use Rattle.masm.specs.Laws.{RunsCompose, StraightRuns, JumpsLead}
 use Rattle.cvm_words.specs.Words.{int_of, quotient, remainder}
 use Rattle.c0_tree.specs.declared.tree.BinaryOp.{BinaryOp}
 use Rattle.c0_tree.specs.declared.tree.BinaryOp.TheVariants as op
 use Rattle.c0_runtime.specs.Laws.{RoutineCalled, RoutineReturns, AreOperands, HasAnswer, IsComputed, MultiplyRuns, DivideRuns}
-use Rattle.c0_runtime.proofs.RoutineSteps.{moved, rests, put_other}
+use Rattle.c0_runtime.proofs.RoutineSteps.{moved, rests}
 use Rattle.c0_runtime.proofs.HiAndLoAnswer.{product_word, not_zero, by_other, quotient_word}
 
 -- the contents after hi, lo and register 2 are set

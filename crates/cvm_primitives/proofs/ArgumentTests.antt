@@ -6,6 +6,8 @@ use Rattle.mips_table.specs.Arith.{flag, sum, extended}
 use Rattle.page_model.specs.Paging.{Pages}
 use Rattle.mips_table.specs.Device.{Idle}
 use Rattle.mips_table.specs.Code.{put, Contents, Behind, World}
+use Rattle.mips_table.proofs.PutsChangeOneWord.{put_other}
+use Rattle.mips_table.proofs.NumbersInHalves.{small_is}
 use Rattle.cvm_primitives.specs.Routines.{RoutineLaws}
 use Rattle.masm.specs.Says.{Gives, Reads, Widens}
 use Rattle.masm.specs.Laws.{From}
@@ -15,7 +17,7 @@ use Rattle.frame_table.specs.View.{Sited}
 use Rattle.cvm_primitives.specs.View.{UsersIn, WordGood, number_of_word, size_at}
 use Rattle.cvm_primitives.proofs.PartStates.{Quiet}
 use Rattle.cvm_primitives.specs.Code.{first_page_code, check_address_code, check_word_arguments_code}
-use Rattle.cvm_primitives.proofs.SharedByRoutines.{flag_of, put_other, small_is}
+use Rattle.cvm_primitives.proofs.SharedByRoutines.{flag_of}
 
 -- a product's bound
 pub product_below : (k users per : ℕ) → k < users → k * per + per ≤ users * per

@@ -7,6 +7,7 @@ use Rattle.mips_table.specs.Arith.{flag}
 use Rattle.page_model.specs.Paging.{Pages}
 use Rattle.mips_table.specs.Device.{Idle}
 use Rattle.mips_table.specs.Code.{Contents, with_reg, Behind, World}
+use Rattle.mips_table.proofs.NumbersInHalves.{small_is}
 use Rattle.cvm_primitives.specs.Routines.{RoutineLaws}
 use Rattle.masm.specs.Says.{Gives, Reads}
 use Rattle.masm.specs.Blocks.{when_code}
@@ -19,7 +20,7 @@ use Rattle.page_fault.specs.Asked.{PageBlock}
 use Rattle.cvm_primitives.specs.View.{steps_of_page, PagesHeld, Marks, CopyGood, UsersIn, RangeGood, CopyArgs, number_of_word, size_at, entry_state}
 use Rattle.cvm_primitives.proofs.PartStates.{Tests}
 use Rattle.cvm_primitives.specs.Code.{first_page_code, find_size_code, check_range_code, apart_code, check_copy_arguments_code, copies_code, vm_copy_code}
-use Rattle.cvm_primitives.proofs.SharedByRoutines.{flag_of, small_is, held_to}
+use Rattle.cvm_primitives.proofs.SharedByRoutines.{flag_of, held_to}
 use Rattle.cvm_primitives.proofs.OnePiece.{copy_law, run_short}
 use Rattle.cvm_primitives.proofs.ArgumentTests.{product_below, Based, base_from}
 use Rattle.cvm_primitives.proofs.WordAccess.{number_good}

@@ -6,6 +6,8 @@ use Rattle.page_model.specs.Paging.{IsUserFrame, IsFrame, MapsTo, Paged}
 use Rattle.page_model.specs.Edits.{Parted, ListFollows, Retargeted}
 use Rattle.mips_table.specs.Device.{Idle}
 use Rattle.mips_table.specs.Code.{Contents, Behind, World}
+use Rattle.mips_table.proofs.PutsChangeOneWord.{put_same, put_other}
+use Rattle.mips_table.proofs.NumbersInHalves.{const_is}
 use Rattle.cvm_primitives.specs.Routines.{RoutineLaws}
 use Rattle.masm.specs.Says.{Gives, Reads, Writes}
 use Rattle.masm.specs.Blocks.{when_code}
@@ -16,7 +18,7 @@ use Rattle.frame_table.specs.View.{Sited, Relisted}
 use Rattle.cvm_primitives.proofs.PartStates.{Keeps, Found, DropAsked, DropDone}
 use Rattle.frame_table.specs.Code.{walk_page_table_code, user_frame_number_code, remove_mapping_code}
 use Rattle.cvm_primitives.specs.Code.{drop_page_code}
-use Rattle.cvm_primitives.proofs.SharedByRoutines.{const_is, put_same, put_other, kept_on, edit_is}
+use Rattle.cvm_primitives.proofs.SharedByRoutines.{kept_on, edit_is}
 use Rattle.page_model.specs.Rows.{SameRow}
 use Rattle.cvm_primitives.proofs.FrameLists.{rows_apart, lists_none, lists_parted}
 

@@ -8,6 +8,8 @@ use Rattle.page_model.specs.Edits.{Joined, PageSet, Retargeted}
 use Rattle.cvm_primitives.proofs.BlocksFromOneState.{names_own}
 use Rattle.mips_table.specs.Device.{Idle}
 use Rattle.mips_table.specs.Code.{put, Contents, with_reg, Behind, World}
+use Rattle.mips_table.proofs.PutsChangeOneWord.{put_same, put_other}
+use Rattle.mips_table.proofs.NumbersInHalves.{const_is}
 use Rattle.cvm_primitives.specs.Routines.{RoutineLaws}
 use Rattle.masm.specs.Says.{Gives, Reads, Writes}
 use Rattle.masm.specs.Blocks.{when_code}
@@ -20,7 +22,7 @@ use Rattle.cvm_primitives.specs.View.{PagesHeld, SharesFrame, FourOthers, EntryS
 use Rattle.cvm_primitives.proofs.PartStates.{Keeps, DropDone, Found}
 use Rattle.frame_table.specs.Code.{walk_page_table_code, user_frame_number_code, add_mapping_code}
 use Rattle.cvm_primitives.specs.Code.{drop_page_code, has_free_slot_code, share_page_code, try_share_code}
-use Rattle.cvm_primitives.proofs.SharedByRoutines.{const_is, put_same, put_other, flag_of, kept_on, edit_is, drop_asked, held_to}
+use Rattle.cvm_primitives.proofs.SharedByRoutines.{flag_of, kept_on, edit_is, drop_asked, held_to}
 use Rattle.page_model.specs.Rows.{SameRow}
 use Rattle.cvm_primitives.proofs.FrameLists.{rows_apart, lists_none, lists_joined}
 use Rattle.cvm_primitives.proofs.DroppedEntries.{find_from, drop_from, keeps_of}

@@ -6,6 +6,8 @@ use Rattle.mips_table.specs.Arith.{flag}
 use Rattle.page_model.specs.Paging.{PageLayout, MapsTo, Pages}
 use Rattle.page_model.specs.Edits.{Retargeted, PageSet}
 use Rattle.mips_table.specs.Code.{put, Contents, with_reg, Behind, World, Does}
+use Rattle.mips_table.proofs.PutsChangeOneWord.{put_same, put_other}
+use Rattle.mips_table.proofs.NumbersInHalves.{const_is, small_is}
 use Rattle.cvm_primitives.specs.Routines.{RoutineLaws}
 use Rattle.masm.specs.Says.{Gives, Reads, Writes}
 use Rattle.masm.specs.Blocks.{load_immediate_code, when_code, loop_code}
@@ -20,7 +22,7 @@ use Rattle.cvm_primitives.specs.View.{steps_of_page, PagesHeld, UsersIn, size_at
 use Rattle.cvm_primitives.proofs.PartStates.{DropDone}
 use Rattle.masm.specs.Blocks.{load_immediate_code}
 use Rattle.cvm_primitives.specs.Code.{drop_page_code, cut_body, grow_body, shrink_memory_code, grow_memory_code, first_page_code, find_size_code, vm_resize_code}
-use Rattle.cvm_primitives.proofs.SharedByRoutines.{const_is, small_is, put_same, put_other, flag_of, edit_is, drop_asked, held_to}
+use Rattle.cvm_primitives.proofs.SharedByRoutines.{flag_of, edit_is, drop_asked, held_to}
 use Rattle.cvm_primitives.proofs.FrameLists.{lists_none}
 use Rattle.cvm_primitives.proofs.DroppedEntries.{drop_from}
 use Rattle.cvm_primitives.proofs.ArgumentTests.{product_below, Based, base_from}

@@ -10,6 +10,8 @@ use Rattle.mips_table.specs.Machine.{LOG, LEFT, log_has_room}
 use Rattle.mips_table.specs.Processor.{Cpu}
 use Rattle.mips_table.specs.Flat.{Flat}
 use Rattle.mips_table.specs.Code.{put, Contents, with_reg, Behind, World}
+use Rattle.mips_table.proofs.PutsChangeOneWord.{put_same, put_other}
+use Rattle.mips_table.proofs.NumbersInHalves.{small_is}
 use Rattle.masm.specs.Says.{Says, Gives, Reads, Writes, Hears, Takes, Logs, sayings}
 use Rattle.masm.specs.Blocks.{when_code}
 use Rattle.masm.specs.Laws.{From}
@@ -21,7 +23,7 @@ use Rattle.cvm_primitives.specs.RegisterCode.{check_user_code, is_register_code,
 use Rattle.cvm_primitives.specs.Blocks.{block_word, IsOneOf, BlocksHold, console_of, EnteredOnBlocks, LeftByCall}
 use Rattle.cvm_primitives.specs.RegisterLaws.{get_call, set_call, size_call, console_put_call}
 use Rattle.cvm_primitives.proofs.RegisterForms.{CodeLaws, within, straightly, straightly_then, conditionally}
-use Rattle.cvm_primitives.proofs.RegisterNumbers.{small_is, put_same, put_other, flag_of, word_in, word_out, as_word}
+use Rattle.cvm_primitives.proofs.RegisterNumbers.{flag_of, word_in, word_out, as_word}
 
 -- a register of a machine whose register r was set: by whether r, and that which is read, is the pc
 reads_pc : (b : Bool) (c : Cpu) (r x : ℕ) → b ≡ false → r < length c.regs → cond b (cond b (record c { pc = x }) (record c { regs = slice_set c.regs r x })).pc (slice_index (cond b (record c { pc = x }) (record c { regs = slice_set c.regs r x })).regs r) ≡ x

@@ -1,22 +1,12 @@
--- Arguments as words and as ints, and small numbers in instructions.
-use Rattle.std.proofs.Common.{◌≡◌, ◌≢◌, ℕ, suc, ◌+◌, ◌-◌, ◌%◌, ◌^◌, ◌<◌, ◌≤◌, ◌⊎◌, ◌&&◌, true, false, nat_lt, nat_le, pos, negsuc, nat_abs, refl, ap, ap₂, ◌∙◌, ⊎_elim, inl, inr, arith, lt-ltb, le-ltb, le-leb, eq-eqb, ne_eqb}
+-- Arguments as words and as ints.
+use Rattle.std.proofs.Common.{◌≡◌, ℕ, suc, ◌+◌, ◌-◌, ◌%◌, ◌^◌, ◌<◌, ◌≤◌, ◌⊎◌, ◌&&◌, true, false, nat_lt, nat_le, pos, negsuc, nat_abs, refl, ap, ap₂, ◌∙◌, ⊎_elim, inl, inr, arith, lt-ltb, le-ltb, le-leb}
 use Rattle.std.proofs.lemmas.Bool.{cases_lt, cond-true, cond-false}
 use Rattle.std.proofs.lemmas.Int.{of_z-to_z, to_z_pos}
 use Rattle.std.proofs.lemmas.Bool.{lt-leb}
 use Rattle.std.specs.Int.{cast_unsigned, w32}
 use Rattle.std.proofs.Math.Facts.{to_z-neg}
-use Rattle.mips_table.specs.Arith.{signed, extended, flag}
-use Rattle.mips_table.specs.Code.{put}
+use Rattle.mips_table.specs.Arith.{signed, flag}
 use Rattle.cvm_model.specs.Primitives.{is_within}
-
-pub small_is : (v : ℕ) → v < 32768 → extended v ≡ v
-small_is v lt = cond-true (nat_lt v (2 ^ 15)) v (v + (2 ^ 32 - 2 ^ 16)) (lt-ltb v (2 ^ 15) lt)
-
-pub put_same : (m : ℕ → ℕ) (a v x : ℕ) → x ≡ a → put m a v x ≡ v
-put_same m a v x e = cond-true _ v (m x) (eq-eqb x a e)
-
-pub put_other : (m : ℕ → ℕ) (a v x : ℕ) → x ≢ a → put m a v x ≡ m x
-put_other m a v x ne = cond-false _ v (m x) (ne_eqb x a ne)
 
 pub flag_of : (a b : ℕ) → ((flag (nat_lt a b) ≡ 1) × (a < b)) ⊎ ((flag (nat_lt a b) ≡ 0) × (b ≤ a))
 flag_of a b = ⊎_elim (λ lt. inl (cond-true (nat_lt a b) 1 0 (lt-ltb a b lt), lt)) (λ le. inr (cond-false (nat_lt a b) 1 0 (le-ltb a b le), le)) (cases_lt a b)

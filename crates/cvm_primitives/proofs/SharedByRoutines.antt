@@ -1,29 +1,16 @@
--- What the routines share: numbers in registers, writes to memory, and an edit of one entry as memory shows it.
-use Rattle.std.proofs.Common.{◌≡◌, ◌≢◌, ℕ, ◌+◌, ◌-◌, ◌*◌, ◌/◌, ◌%◌, ◌^◌, ◌<◌, ◌≤◌, ◌⊎◌, nat_lt, bit_or, refl, sym, ap, ◌∙◌, subst, ⊎_elim, inl, inr, arith, lt-ltb, le-ltb, eq-eqb, ne_eqb}
+-- What the routines share: what they keep, and an edit of one entry as memory shows it.
+use Rattle.std.proofs.Common.{◌≡◌, ◌≢◌, ℕ, ◌+◌, ◌-◌, ◌*◌, ◌^◌, ◌<◌, ◌≤◌, ◌⊎◌, nat_lt, refl, sym, ap, ◌∙◌, subst, ⊎_elim, inl, inr, arith, lt-ltb, le-ltb}
 use Rattle.std.proofs.lemmas.Bool.{cases_lt, cond-true, cond-false}
-use Rattle.std.proofs.lemmas.Nat.{or_shifted}
 use Rattle.page_model.specs.Paging.{IsUserFrame, MapsTo, Pages, PagingInvariant}
 use Rattle.page_model.specs.Edits.{ListFollows, Retargeted}
-use Rattle.mips_table.specs.Arith.{extended, flag}
-use Rattle.mips_table.specs.Code.{put, Contents, Behind, World}
+use Rattle.mips_table.specs.Arith.{flag}
+use Rattle.mips_table.specs.Code.{Contents, Behind, World}
 use Rattle.page_model.specs.TableLayout.{TableLayout, paged_view}
 use Rattle.layer_map.specs.Map.{hand_at}
 use Rattle.frame_table.specs.View.{Sited}
 use Rattle.cvm_primitives.specs.View.{PagesHeld, EntryState, BehindStays}
 use Rattle.cvm_primitives.proofs.PartStates.{Keeps, DropAsked}
 use Rattle.cvm_primitives.specs.Routines.{RoutineLaws}
-
-pub const_is : (v : ℕ) → bit_or (v / 65536 * 2 ^ 16) (v % 65536) ≡ v
-const_is v = or_shifted (v / 65536) 16 (v % 65536) (omega arith) ∙ omega arith
-
-pub small_is : (v : ℕ) → v < 32768 → extended v ≡ v
-small_is v lt = cond-true (nat_lt v (2 ^ 15)) v (v + (2 ^ 32 - 2 ^ 16)) (lt-ltb v (2 ^ 15) lt)
-
-pub put_same : (m : ℕ → ℕ) (a v x : ℕ) → x ≡ a → put m a v x ≡ v
-put_same m a v x e = cond-true _ v (m x) (eq-eqb x a e)
-
-pub put_other : (m : ℕ → ℕ) (a v x : ℕ) → x ≢ a → put m a v x ≡ m x
-put_other m a v x ne = cond-false _ v (m x) (ne_eqb x a ne)
 
 pub flag_of : (a b : ℕ) → ((flag (nat_lt a b) ≡ 1) × (a < b)) ⊎ ((flag (nat_lt a b) ≡ 0) × (b ≤ a))
 flag_of a b = ⊎_elim (λ lt. inl (cond-true (nat_lt a b) 1 0 (lt-ltb a b lt), lt)) (λ le. inr (cond-false (nat_lt a b) 1 0 (le-ltb a b le), le)) (cases_lt a b)

@@ -6,6 +6,7 @@ use Rattle.page_model.specs.Paging.{IsUserFrame, IsFrame, MapsTo, Pages, PagingI
 use Rattle.cvm_primitives.proofs.BlocksFromOneState.{names_own}
 use Rattle.cvm_primitives.proofs.BlocksFromOneState.{user_or_zero}
 use Rattle.mips_table.specs.Code.{put, Contents, with_reg, Behind, World}
+use Rattle.mips_table.proofs.PutsChangeOneWord.{put_same, put_other}
 use Rattle.cvm_primitives.specs.Routines.{RoutineLaws}
 use Rattle.masm.specs.Says.{Gives, Reads, Writes}
 use Rattle.masm.specs.Laws.{From}
@@ -18,7 +19,7 @@ use Rattle.page_fault.specs.Asked.{PageBlock, fault_steps}
 use Rattle.cvm_primitives.specs.View.{steps_of_page, PagesHeld, UsersIn, WordGood, number_of_word, EntryState, entry_state, BehindStays}
 use Rattle.cvm_primitives.proofs.PartStates.{Came, Located, Quiet}
 use Rattle.cvm_primitives.specs.Code.{locate_code, read_word_code, write_word_code, vm_word_code, vm_put_code}
-use Rattle.cvm_primitives.proofs.SharedByRoutines.{put_same, put_other, held_to}
+use Rattle.cvm_primitives.proofs.SharedByRoutines.{held_to}
 use Rattle.cvm_primitives.proofs.WordsMoved.{locate_from}
 use Rattle.cvm_primitives.proofs.PagesBrought.{brings_one}
 use Rattle.cvm_primitives.proofs.ArgumentTests.{product_below, asked_from}

@@ -1,7 +1,8 @@
 -- Words are moved, by masm's law of the loop that copies, and the address of a user's word is found.
-use Rattle.std.proofs.Common.{◌≡◌, ℕ, ◌+◌, ◌*◌, ◌/◌, ◌%◌, ◌^◌, ◌<◌, ◌≤◌, [], ◌∷◌, refl, sym, ap, ◌∙◌, arith}
+use Rattle.std.proofs.Common.{◌≡◌, ℕ, ◌+◌, ◌*◌, ◌/◌, ◌%◌, ◌^◌, ◌<◌, [], ◌∷◌, refl, ap, arith}
 use Rattle.mips_table.specs.Device.{Idle}
 use Rattle.mips_table.specs.Code.{Contents, Behind, World}
+use Rattle.mips_table.proofs.NumbersInHalves.{const_is}
 use Rattle.cvm_primitives.specs.Routines.{RoutineLaws}
 use Rattle.masm.specs.Says.{Gives, Reads}
 use Rattle.masm.specs.Laws.{From}
@@ -11,7 +12,6 @@ use Rattle.frame_table.specs.View.{Sited}
 use Rattle.cvm_primitives.proofs.PartStates.{Keeps, Moved, Located}
 use Rattle.masm.specs.Copy.{copy_code, MayCopy, IsCopied}
 use Rattle.cvm_primitives.specs.Code.{locate_code}
-use Rattle.cvm_primitives.proofs.SharedByRoutines.{const_is}
 
 module _ (w : World) (f : RoutineLaws w) (a b n : ℕ) (c0 : Contents) (d0 : Behind) (asked : MayCopy w a b n c0 d0) where
   kept : (c : Contents) → IsCopied a b n c0 c → Keeps c0 c

@@ -5,6 +5,8 @@ use Rattle.mips_table.specs.declared.inst.Inst.TheVariants.{Addiu, Subu, Sltiu, 
 use Rattle.mips_table.specs.Arith.{extended}
 use Rattle.mips_table.specs.Device.{Idle}
 use Rattle.mips_table.specs.Code.{put, with_reg, Contents, Behind, World, Sound}
+use Rattle.mips_table.proofs.PutsChangeOneWord.{put_same, put_other}
+use Rattle.mips_table.proofs.NumbersInHalves.{const_is, small_is}
 use Rattle.layer_map.specs.Map.{hand_at}
 use Rattle.masm.specs.Blocks.{when_code}
 use Rattle.masm.specs.Says.{Gives, Reads, Writes}
@@ -14,7 +16,6 @@ use Rattle.page_model.specs.TableLayout.{TableLayout}
 use Rattle.frame_table.specs.Code.{walk_page_table_code, advance_clock_code}
 use Rattle.frame_table.specs.View.{Sited, Ported, Found, WordWritten}
 use Rattle.frame_table.specs.Laws.{FindsEntry, next_index, HandMovesOn}
-use Rattle.frame_table.proofs.WordsInOnePlace.{const_is, small_is, put_same, put_other}
 
 module _ (w : World) (f : Sound w) where
   pub finds : FindsEntry w

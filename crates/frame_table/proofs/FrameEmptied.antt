@@ -5,6 +5,8 @@ use Rattle.mips_table.specs.declared.inst.Inst.{Inst}
 use Rattle.mips_table.specs.declared.inst.Inst.TheVariants.{Sw}
 use Rattle.mips_table.specs.Device.{Idle, BUFFER}
 use Rattle.mips_table.specs.Code.{put, with_reg, Contents, Behind, World, Sound, Does}
+use Rattle.mips_table.proofs.PutsChangeOneWord.{put_same, put_other}
+use Rattle.mips_table.proofs.NumbersInHalves.{const_is}
 use Rattle.layer_map.specs.Map.{hand_at}
 use Rattle.masm.specs.Says.{Says, Gives, Reads, Writes}
 use Rattle.masm.specs.Laws.{From}
@@ -18,7 +20,7 @@ use Rattle.frame_table.specs.declared.evicting.TheConstants.{UNMAP_PAGE, NEXT_SL
 use Rattle.frame_table.specs.Code.{read_clock_hand_code, read_reverse_map_code, write_back_page_code, write_back_all_code, evict_frame_code}
 use Rattle.frame_table.specs.View.{Sited, Ported, LeftByEviction, scratch, Emptied}
 use Rattle.frame_table.specs.Laws.{Evicts}
-use Rattle.frame_table.proofs.WordsInOnePlace.{const_is, put_same, put_other, kept_out}
+use Rattle.frame_table.proofs.KeptIsNotScratch.{kept_out}
 
 module _ (w : World) (f : Sound w) (spared : RegistersStay) (lists : ListsAreWhole) (shows : EntriesShow) (block : List Inst) (short : length block ≤ 1000) (p : TableLayout) (b : ℕ) (writes : WritesFrames w block (b + 2699)) (si : Sited p w) (pt : Ported p w b) (v : Pages) (c0 : Contents) (d0 : Behind)
     (stands : PagingInvariant p.layout v (paged_view p c0.memory d0.sectors)) (idle : d0.pending ≡ Idle) where

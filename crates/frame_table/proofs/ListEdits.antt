@@ -4,6 +4,8 @@ use Rattle.std.proofs.lemmas.Bool.{cases_eq}
 use Rattle.mips_table.specs.declared.inst.Inst.TheVariants.{Lw, Sw}
 use Rattle.mips_table.specs.Device.{Idle}
 use Rattle.mips_table.specs.Code.{put, with_reg, Contents, Behind, World, Sound}
+use Rattle.mips_table.proofs.PutsChangeOneWord.{put_same, put_other}
+use Rattle.mips_table.proofs.NumbersInHalves.{const_is, small_is}
 use Rattle.masm.specs.Says.{Gives, Reads, Writes}
 use Rattle.masm.specs.Laws.{RunsCompose, JumpsLead, From}
 use Rattle.masm.proofs.RulesForRoutines.{from_straight, from_then, from_later, straight_then}
@@ -14,7 +16,6 @@ use Rattle.frame_table.specs.Code.{equal_code, replace_slot_code, pop_last_page_
 use Rattle.page_model.specs.Rows.{InList}
 use Rattle.frame_table.specs.View.{Sited, Relisted}
 use Rattle.frame_table.specs.Laws.{LeavesList, JoinsList}
-use Rattle.frame_table.proofs.WordsInOnePlace.{const_is, small_is, put_same, put_other}
 use Rattle.frame_table.proofs.EqualBranches.{from_equal}
 
 module _ (w : World) (f : Sound w) (p : TableLayout) (q fr : ℕ) (c0 : Contents) (d0 : Behind) (si : Sited p w) (uf : IsUserFrame p.layout fr) (r8 : c0.regs 8 ≡ fr - p.layout.zeros) (idle : d0.pending ≡ Idle) where

@@ -6,6 +6,7 @@ use Rattle.mips_table.specs.declared.inst.Inst.TheVariants.{Sll, Srl, Addiu, Add
 use Rattle.mips_table.specs.Arith.{flag}
 use Rattle.mips_table.specs.Device.{Idle}
 use Rattle.mips_table.specs.Code.{Contents, with_reg, reg, Behind, World, CodeState, at_with, Reaches}
+use Rattle.mips_table.proofs.NumbersInHalves.{small_is}
 use Rattle.masm.specs.Says.{Says, Gives, Reads, straight, AllSaid, sayings, tellings}
 use Rattle.masm.specs.Blocks.{when_code}
 use Rattle.masm.specs.Laws.{From}
@@ -21,7 +22,7 @@ use Rattle.cvm_primitives.specs.Sharing.{EndsWhole, LastShared}
 use Rattle.layer_sharing.specs.Passing.{Through, CopyPassed}
 use Rattle.cvm_primitives.proofs.PartStates.{Tests}
 use Rattle.cvm_primitives.proofs.BlocksFromOneState.{from_straight}
-use Rattle.cvm_primitives.proofs.SharedByRoutines.{flag_of, small_is, held_to}
+use Rattle.cvm_primitives.proofs.SharedByRoutines.{flag_of, held_to}
 use Rattle.cvm_primitives.proofs.OnePiece.{run_short}
 use Rattle.cvm_primitives.proofs.ArgumentTests.{product_below, Based, base_from}
 use Rattle.cvm_primitives.proofs.CopyFromArguments.{numbers_apart, live_range, range_below}

@@ -1,17 +1,13 @@
 -- The loop that waits for the disk, by induction on the steps that are left, three at a time.
-use Rattle.std.proofs.Common.{◌≡◌, ◌≢◌, ℕ, zero, suc, ◌+◌, ◌≤◌, true, [], ◌∷◌, refl, sym, ap, ◌∙◌, subst, arith}
+use Rattle.std.proofs.Common.{◌≡◌, ℕ, zero, suc, ◌+◌, ◌≤◌, true, [], ◌∷◌, refl, sym, ap, ◌∙◌, subst, arith}
 use Rattle.std.specs.Prelude.{if◌then◌else◌, ◌==◌}
-use Rattle.std.proofs.lemmas.Bool.{cond-false}
-use Rattle.std.proofs.Common.{ne_eqb}
 use Rattle.mips_table.specs.declared.inst.Inst.TheVariants.{Lw}
 use Rattle.mips_table.specs.Device.{Pending, Idle, Reading, Writing, COMMAND, is_busy}
 use Rattle.mips_table.specs.Code.{put, Contents, with_reg, Behind, World, Sound, at_with, settle, filled, buffer_of, Reaches, CodeAt}
+use Rattle.mips_table.proofs.PutsChangeOneWord.{put_other}
 use Rattle.masm.specs.Says.{Hears}
 use Rattle.masm.specs.Laws.{RunsCompose, StraightRuns, LoopRuns}
 use Rattle.masm.specs.Wait.{wait_code, wait_steps, words_after, behind_after, Waited, WaitRuns}
-
-put_other : (m : ℕ → ℕ) (a v k : ℕ) → k ≢ a → put m a v k ≡ m k
-put_other m a v k ne = cond-false _ v (m k) (ne_eqb k a ne)
 
 module _ (w : World) (f : Sound w) (system : w.system ≡ true) (runs : RunsCompose) (straight : StraightRuns w) (loop : LoopRuns w (Lw 1 0 0xf004 ∷ []) 1 []) (n : ℕ) (code : CodeAt w n wait_code) where
   -- the status is read

@@ -1,17 +1,12 @@
 -- The loop that copies words, by the laws of straight code and of loops alone.
-use Rattle.std.proofs.Common.{◌≡◌, ◌≢◌, ℕ, suc, ◌+◌, ◌-◌, ◌*◌, ◌<◌, List, [], ◌∷◌, refl, sym, ap, ◌∙◌, subst, ⊎_elim, inl, inr, arith, eq-eqb, ne_eqb}
-use Rattle.std.proofs.lemmas.Bool.{cases_eq, cond-true, cond-false}
+use Rattle.std.proofs.Common.{◌≡◌, ◌≢◌, ℕ, suc, ◌+◌, ◌-◌, ◌*◌, ◌<◌, List, [], ◌∷◌, refl, sym, ap, ◌∙◌, subst, ⊎_elim, inl, inr, arith}
+use Rattle.std.proofs.lemmas.Bool.{cases_eq}
 use Rattle.mips_table.specs.Device.{Idle}
 use Rattle.mips_table.specs.Code.{put, Contents, reg, Behind, World, Sound, Does}
+use Rattle.mips_table.proofs.PutsChangeOneWord.{put_same, put_other}
 use Rattle.masm.specs.Says.{Says, Gives, Reads, Writes, sayings}
 use Rattle.masm.specs.Laws.{RunsCompose, StraightRuns, LoopPays, Pays}
 use Rattle.masm.specs.Copy.{copy_turn, MayCopy, IsCopied, CopyRuns, Copying, onward, MidCopy, CopyEnds}
-
-put_same : (m : ℕ → ℕ) (a v k : ℕ) → k ≡ a → put m a v k ≡ v
-put_same m a v k e = cond-true _ v (m k) (eq-eqb k a e)
-
-put_other : (m : ℕ → ℕ) (a v k : ℕ) → k ≢ a → put m a v k ≡ m k
-put_other m a v k ne = cond-false _ v (m k) (ne_eqb k a ne)
 
 four : (g : ℕ → ℕ) (a s b t c u e v k : ℕ) → k ≢ a → k ≢ b → k ≢ c → k ≢ e → put (put (put (put g a s) b t) c u) e v k ≡ g k
 four g a s b t c u e v k na nb nc ne =

@@ -6,6 +6,8 @@ use Rattle.mips_table.specs.declared.inst.Inst.{Inst}
 use Rattle.mips_table.specs.declared.inst.Inst.TheVariants.{Sll, Srl, Addiu, Lw}
 use Rattle.mips_table.specs.Device.{Idle}
 use Rattle.mips_table.specs.Code.{put, reg, Contents, Behind, World, Sound}
+use Rattle.mips_table.proofs.PutsChangeOneWord.{put_same, put_other}
+use Rattle.mips_table.proofs.NumbersInHalves.{const_is}
 use Rattle.layer_map.specs.Map.{hand_at}
 use Rattle.masm.specs.Says.{Says, Gives, Reads, Writes, straight, sayings}
 use Rattle.masm.specs.Blocks.{when_code}
@@ -18,11 +20,12 @@ use Rattle.page_model.specs.TableLayout.{TableLayout, count_at, slot_at, paged_v
 use Rattle.frame_table.specs.Code.{user_frame_number_code}
 use Rattle.masm.specs.Frames.{Besides}
 use Rattle.frame_table.specs.View.{Sited, Ported, LeftByEviction, scratch, names_hand}
+use Rattle.frame_table.proofs.KeptIsNotScratch.{kept_out}
 use Rattle.page_fault.specs.declared.block.TheConstants.{CLEAR_PROTECTION}
 use Rattle.page_fault.specs.Code.{look_up_page_code, page_in_code, is_sole_mapping_code, copy_on_write_code, check_protection_code, check_store_code, handle_page_code}
 use Rattle.page_fault.specs.Asked.{BringsIn, IsPageBlock, PageAsked, PageDone, PageBlock, swap_steps, fault_steps}
 use Rattle.page_fault.proofs.BlocksFrom.{from_straight, from_then, from_when, from_later, straight_then}
-use Rattle.page_fault.proofs.BlockPremises.{Laws, const_is, put_same, put_other, names_own, kept_out, besides_same, besides_on}
+use Rattle.page_fault.proofs.BlockPremises.{Laws, names_own, besides_same, besides_on}
 use Rattle.page_fault.proofs.BlockParts.{FillAsked, FillDone}
 use Rattle.page_fault.proofs.WordsFound.{seen_says}
 use Rattle.page_fault.proofs.EvictAndPlace.{fill_from}

@@ -2,6 +2,7 @@
 use Rattle.std.proofs.Common.{◌≡◌, ◌≢◌, ℕ, ◌+◌, ◌-◌, ◌*◌, ◌/◌, ◌%◌, ◌^◌, ◌<◌, ◌≤◌, ◌⊎◌, List, [], ◌∷◌, ◌++◌, refl, sym, ap, ◌∙◌, subst, ⊎_elim, inl, inr, arith}
 use Rattle.std.proofs.lemmas.Bool.{cases_eq}
 use Rattle.mips_table.specs.Code.{Contents, Behind, World, Sound}
+use Rattle.mips_table.proofs.NumbersInHalves.{const_is}
 use Rattle.masm.specs.Says.{Says, Gives}
 use Rattle.masm.specs.Blocks.{when_code}
 use Rattle.masm.specs.Laws.{From}
@@ -13,9 +14,10 @@ use Rattle.swap_layer.specs.Code.{copy_to_frame_code}
 use Rattle.frame_table.specs.Code.{user_frame_number_code, remove_mapping_code}
 use Rattle.masm.specs.Frames.{Besides}
 use Rattle.frame_table.specs.View.{Sited, Ported, LeftByEviction, scratch, Relisted}
+use Rattle.frame_table.proofs.KeptIsNotScratch.{kept_out}
 use Rattle.page_fault.specs.Code.{leave_shared_frame_code}
 use Rattle.page_fault.proofs.BlocksFrom.{from_when, from_later, straight_then}
-use Rattle.page_fault.proofs.BlockPremises.{Laws, const_is, names_own, names_one, kept_out, besides_same}
+use Rattle.page_fault.proofs.BlockPremises.{Laws, names_own, names_one, besides_same}
 use Rattle.page_fault.proofs.BlockParts.{PlaceAsked, Sourced, Loaded}
 
 module _ (w : World) (f : Sound w) (laws : Laws w) (p : TableLayout) (b : ℕ) (si : Sited p w) (pt : Ported p w b) (q h : ℕ) (c1 : Contents) (d1 : Behind) (a : PlaceAsked p q h c1 d1) where

@@ -6,6 +6,8 @@ use Rattle.mips_table.specs.declared.inst.Inst.{Inst}
 use Rattle.mips_table.specs.declared.inst.Inst.TheVariants.{Sll, Addu, Subu, Sltiu, Addiu, Sw}
 use Rattle.mips_table.specs.Arith.{difference}
 use Rattle.mips_table.specs.Code.{put, Contents, Behind, World, Sound}
+use Rattle.mips_table.proofs.PutsChangeOneWord.{put_same, put_other}
+use Rattle.mips_table.proofs.NumbersInHalves.{const_is, small_is}
 use Rattle.layer_map.specs.Map.{hand_at}
 use Rattle.masm.specs.Says.{Says, Gives, Writes, sayings}
 use Rattle.masm.specs.Blocks.{when_code}
@@ -15,10 +17,11 @@ use Rattle.page_model.specs.TableLayout.{TableLayout, count_at, slot_at}
 use Rattle.page_model.specs.Rows.{SameRow}
 use Rattle.swap_layer.specs.Code.{copy_to_frame_code}
 use Rattle.frame_table.specs.View.{Sited, Ported, LeftByEviction, scratch}
+use Rattle.frame_table.proofs.KeptIsNotScratch.{kept_out}
 use Rattle.masm.specs.Blocks.{load_immediate_code}
 use Rattle.page_fault.specs.Code.{locate_words_code, leave_shared_frame_code, load_page_code}
 use Rattle.page_fault.proofs.BlocksFrom.{from_straight, from_then, from_when, from_later, straight_then}
-use Rattle.page_fault.proofs.BlockPremises.{Laws, const_is, small_is, put_same, put_other, kept_out, besides_same}
+use Rattle.page_fault.proofs.BlockPremises.{Laws, besides_same}
 use Rattle.page_fault.proofs.BlockParts.{PlaceAsked, Sourced, Loaded, PlaceDone}
 use Rattle.page_fault.proofs.WordsFound.{sources}
 use Rattle.page_fault.proofs.PageLoaded.{Untouched, PageLeft, settles, leaves}

@@ -4,6 +4,7 @@ use Rattle.std.proofs.lemmas.Bool.{cases_eq}
 use Rattle.mips_table.specs.declared.inst.Inst.TheVariants.{Sll}
 use Rattle.mips_table.specs.Device.{BUFFER}
 use Rattle.mips_table.specs.Code.{Contents, Behind, World, Sound}
+use Rattle.mips_table.proofs.NumbersInHalves.{const_is}
 use Rattle.masm.specs.Says.{Says, Gives, Reads, sayings}
 use Rattle.masm.specs.Blocks.{when_code}
 use Rattle.masm.specs.Laws.{From}
@@ -12,9 +13,10 @@ use Rattle.page_model.specs.TableLayout.{TableLayout, paged_view}
 use Rattle.swap_layer.specs.Code.{read_sector_code}
 use Rattle.swap_layer.specs.Laws.{SectorFetched}
 use Rattle.frame_table.specs.View.{Sited, Ported, scratch}
+use Rattle.frame_table.proofs.KeptIsNotScratch.{kept_out}
 use Rattle.page_fault.specs.Code.{look_up_page_code, locate_words_code}
 use Rattle.page_fault.proofs.BlocksFrom.{from_straight, from_then, from_when, from_later, straight_then}
-use Rattle.page_fault.proofs.BlockPremises.{Laws, const_is, names_own, kept_out, besides_same, besides_none, besides_on}
+use Rattle.page_fault.proofs.BlockPremises.{Laws, names_own, besides_same, besides_none, besides_on}
 use Rattle.page_fault.proofs.BlockParts.{PlaceAsked, Sourced}
 
 -- what is said of the instructions that look at an entry e of page q: v tells whether it is valid, and a whether it isn't

@@ -1,3 +1,2 @@
-mod SmallOffsets
 mod RegistersSaved
 mod UserKept

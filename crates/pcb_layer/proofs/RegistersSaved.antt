@@ -4,12 +4,13 @@ use Rattle.std.proofs.lemmas.Bool.{cases_eq, cond-false}
 use Rattle.mips_table.specs.declared.inst.Inst.TheVariants.{Lw, Sw}
 use Rattle.mips_table.specs.Device.{Idle}
 use Rattle.mips_table.specs.Code.{put, reg, put_reg, Contents, Behind, World, Sound}
+use Rattle.mips_table.proofs.PutsChangeOneWord.{put_same, put_other}
+use Rattle.mips_table.proofs.NumbersInHalves.{small_is}
 use Rattle.masm.specs.Says.{Reads, Writes}
 use Rattle.masm.specs.Laws.{From}
 use Rattle.masm.proofs.RulesForRoutines.{from_straight, from_then, from_later}
 use Rattle.pcb_layer.specs.Code.{saved_at, save_registers_code, load_registers_code, save_context_code}
 use Rattle.pcb_layer.specs.Laws.{HasSaveArea, MaySave}
-use Rattle.pcb_layer.proofs.SmallOffsets.{put_same, put_other, small_is}
 
 -- registers 1 to n are saved
 pub record SavedTo (n : ℕ) (c0 : Contents) (d0 : Behind) (c : Contents) (d : Behind) : Type 0 where

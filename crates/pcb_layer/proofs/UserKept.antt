@@ -2,13 +2,13 @@
 use Rattle.std.proofs.Common.{◌≡◌, ◌≢◌, ℕ, ◌+◌, ◌-◌, ◌*◌, ◌<◌, ◌≤◌, ◌⊎◌, [], ◌∷◌, ◌++◌, None, refl, sym, ap, ◌∙◌, ⊎_elim, inl, inr, arith}
 use Rattle.mips_table.specs.declared.special.TheConstants.{EPC}
 use Rattle.mips_table.specs.Code.{put, with_reg, with_wide, Contents, World, Sound}
+use Rattle.mips_table.proofs.PutsChangeOneWord.{put_same, put_other}
 use Rattle.layer_map.specs.Map.{current_at, block_at}
 use Rattle.masm.specs.Says.{Gives, Widens, Reads, Writes, Asks}
 use Rattle.masm.proofs.RulesForRoutines.{from_straight, from_then, from_later, straight_then}
 use Rattle.pcb_layer.specs.Code.{save_registers_code, restore_registers_code, find_control_block_code, save_context_code, save_user_code, load_registers_code, restore_user_code}
 use Rattle.pcb_layer.specs.declared.blocks.TheConstants.{SAVE_SPECIAL, RESTORE_SPECIAL}
 use Rattle.pcb_layer.specs.Laws.{Saved, Restored, IsBeside, InControlBlock, UserSaved, UserRestored, SavesRegisters, RestoresRegisters, KeepsUser, SavesUser, RestoresUser}
-use Rattle.pcb_layer.proofs.SmallOffsets.{put_same, put_other}
 use Rattle.pcb_layer.proofs.RegistersSaved.{SavedTo, LoadedTo, CopiedTo, saves, loads, copies}
 
 module _ (w : World) (f : Sound w) where

@@ -4,6 +4,7 @@ use Rattle.std.proofs.lemmas.Bool.{cond-true, cond-false}
 use Rattle.mips_table.specs.declared.inst.Inst.TheVariants.{Sw}
 use Rattle.mips_table.specs.Device.{Idle, BUFFER, SECTOR, COMMAND}
 use Rattle.mips_table.specs.Code.{Contents, Behind, World, Sound, with_reg, put, buffer_of, filled}
+use Rattle.mips_table.proofs.PutsChangeOneWord.{put_same, put_other}
 use Rattle.masm.specs.Says.{Gives, WritesDisk}
 use Rattle.masm.specs.Laws.{From}
 use Rattle.masm.specs.Stays.{RegistersStay}
@@ -13,7 +14,7 @@ use Rattle.masm.specs.Frames.{HasDisk, SwappedOut}
 use Rattle.swap_layer.specs.Code.{move_words_code, name_sector_code, give_command_code, swap_out_code, read_sector_code, copy_to_frame_code, swap_in_code}
 use Rattle.swap_layer.specs.declared.swap.TheConstants.{FROM_FRAME_TO_BUFFER, FROM_BUFFER, TO_FRAME}
 use Rattle.swap_layer.specs.Laws.{WordsMoved, SectorFetched, MovesRun, SwapsOut, FetchesSector, FillsFrame, SwapsIn}
-use Rattle.swap_layer.proofs.SmallOffsets.{put_same, put_other, in_buffer, elsewhere}
+use Rattle.swap_layer.proofs.WordsOfTheBuffer.{in_buffer, elsewhere}
 
 module _ (w : World) (f : Sound w) (spared : RegistersStay) (moves : MovesRun w) (transfers : TransfersRun w) where
   -- the buffer is written to the sector

@@ -1,3 +1,3 @@
-mod SmallOffsets
+mod WordsOfTheBuffer
 mod WordsMoved
 mod FramesSwapped

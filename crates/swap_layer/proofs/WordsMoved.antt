@@ -5,13 +5,15 @@ use Rattle.mips_table.specs.declared.inst.Inst.{Inst}
 use Rattle.mips_table.specs.declared.inst.Inst.TheVariants.{Addiu, Lw, Sw}
 use Rattle.mips_table.specs.Device.{Idle, SECTOR}
 use Rattle.mips_table.specs.Code.{put, with_reg, Contents, Behind, World, Sound, Does}
+use Rattle.mips_table.proofs.PutsChangeOneWord.{put_same, put_other}
+use Rattle.mips_table.proofs.NumbersInHalves.{small_is}
 use Rattle.masm.specs.Says.{Says, Gives, Reads, Writes, ReadsDisk, WritesDisk}
 use Rattle.masm.specs.Laws.{From}
 use Rattle.masm.specs.Stays.{RegistersStay}
 use Rattle.masm.proofs.RulesForRoutines.{from_straight, does_from, from_does, follows, weaker, loop_goes}
 use Rattle.swap_layer.specs.Code.{move_words_code}
 use Rattle.swap_layer.specs.Laws.{MoveAsked, WordsMoved, MovesRun}
-use Rattle.swap_layer.proofs.SmallOffsets.{put_same, put_other, small_is, disk_is, place_top}
+use Rattle.swap_layer.proofs.WordsOfTheBuffer.{disk_is, place_top}
 
 -- m words, the o-th and on, from the address in register 1 to that in register 2: what a turn is made of
 abbrev pairs_code : (m o : ℕ) → List Inst

@@ -3,10 +3,12 @@ use Rattle.std.proofs.Common.{◌≡◌, ◌≢◌, ℕ, ◌+◌, ◌-◌, ◌*�
 use Rattle.std.proofs.lemmas.Bool.{cond-true, cond-false}
 use Rattle.mips_table.specs.declared.inst.Inst.{Inst}
 use Rattle.mips_table.specs.declared.inst.Inst.TheVariants.{Addiu, Sltiu, Sw, Eret}
-use Rattle.mips_table.specs.Arith.{extended, flag}
+use Rattle.mips_table.specs.Arith.{flag}
 use Rattle.mips_table.specs.Device.{Idle}
 use Rattle.mips_table.specs.declared.special.TheConstants.{ESR, PTO, PTL, EMODE}
 use Rattle.mips_table.specs.Code.{put, Contents, Behind, World, Sound, CodeAt}
+use Rattle.mips_table.proofs.PutsChangeOneWord.{put_other}
+use Rattle.mips_table.proofs.NumbersInHalves.{const_is, small_is}
 use Rattle.layer_map.specs.Map.{current_at, block_at}
 use Rattle.masm.specs.Blocks.{when_code}
 use Rattle.masm.specs.Says.{Gives, Widens, Reads, Writes, Asks}
@@ -17,12 +19,9 @@ use Rattle.pcb_layer.specs.Code.{find_control_block_code, restore_user_code}
 use Rattle.pcb_layer.specs.Laws.{UserRestored, RestoresUser}
 use Rattle.trap_entry.specs.Code.{switch_page_table_code, set_user_limits_code, return_to_user_code, act_on_answer_code, exit_with_code}
 use Rattle.trap_entry.specs.Laws.{RunComesTo, MayGo, PassedOver, UserReady, LeavesToUser, LeavesForGood, LeavesBadly, ExitsWith}
-use Rattle.trap_entry.proofs.RunsJoined.{put_other, const_is, Run, block, join, later, comes}
+use Rattle.trap_entry.proofs.RunsJoined.{Run, block, join, later, comes}
 
 module _ (w : World) (f : Sound w) (runs : RunsCompose) where
-  small_is : (v : ℕ) → v < 32768 → extended v ≡ v
-  small_is v lt = cond-true (nat_lt v (2 ^ 15)) v (v + (2 ^ 32 - 2 ^ 16)) (lt-ltb v (2 ^ 15) lt)
-
   -- the user goes on
   goes : RestoresUser w → (p : TableLayout) (users per u : ℕ) (c0 c : Contents) (d : Behind) → MayGo w p users per u → PassedOver c0 d c d → c0.regs 2 ≡ u → d.pending ≡ Idle → From w (return_to_user_code p per) 62 c d (UserReady p per u c0 d)
   goes restores p users per u c0 c d may s r2 idle =

@@ -5,6 +5,7 @@ use Rattle.mips_table.specs.declared.inst.Inst.TheVariants.{Eret, J}
 use Rattle.mips_table.specs.Device.{Idle}
 use Rattle.mips_table.specs.declared.special.TheConstants.{ECA, EDATA, PTO, PTL}
 use Rattle.mips_table.specs.Code.{put, Contents, Behind, World, Sound, CodeAt}
+use Rattle.mips_table.proofs.NumbersInHalves.{const_is}
 use Rattle.layer_map.specs.Map.{hand_at}
 use Rattle.masm.specs.Blocks.{when_code}
 use Rattle.masm.specs.Says.{Gives, Asks}
@@ -21,7 +22,7 @@ use Rattle.pcb_layer.specs.Code.{saved_at, restore_registers_code}
 use Rattle.pcb_layer.specs.Laws.{MaySave, Restored, SavesRegisters, RestoresRegisters}
 use Rattle.trap_entry.specs.Code.{save_and_classify_code, find_faulting_page_code, handle_page_fault_code, enter_kernel_code, handler_code}
 use Rattle.trap_entry.specs.Laws.{IsHandled, FaultAsked, FaultDone, fault_eret_at, HandlesFaults}
-use Rattle.trap_entry.proofs.RunsJoined.{const_is, Run, block, join, later, comes}
+use Rattle.trap_entry.proofs.RunsJoined.{Run, block, join, later, comes}
 use Rattle.trap_entry.proofs.FaultDecided.{Ready, Decided, ready_on, positive, decides}
 
 module _ (w : World) (f : Sound w) (runs : RunsCompose) (alikes : AlikesStand) (saves : SavesRegisters w) (restores : RestoresRegisters w)

@@ -1,20 +1,9 @@
--- Runs from one word to another, how they join, and words of a function that is written at one place.
-use Rattle.std.proofs.Common.{◌≡◌, ◌≢◌, ℕ, ◌+◌, ◌*◌, ◌/◌, ◌%◌, ◌^◌, ◌≤◌, Some, bit_or, List, length, refl, ◌∙◌, subst, arith, eq-eqb, ne_eqb}
-use Rattle.std.proofs.lemmas.Bool.{cond-true, cond-false}
-use Rattle.std.proofs.lemmas.Nat.{or_shifted}
+-- Runs from one word to another, and how they join.
+use Rattle.std.proofs.Common.{◌≡◌, ℕ, ◌+◌, ◌≤◌, Some, List, length, refl, subst}
 use Rattle.mips_table.specs.declared.inst.Inst.{Inst}
-use Rattle.mips_table.specs.Code.{put, Contents, Behind, World, at_with, CodeAt, Reaches}
+use Rattle.mips_table.specs.Code.{Contents, Behind, World, at_with, CodeAt, Reaches}
 use Rattle.masm.specs.Laws.{RunsCompose, From}
 use Rattle.trap_entry.specs.Laws.{RunComesTo}
-
-pub put_same : (m : ℕ → ℕ) (a v x : ℕ) → x ≡ a → put m a v x ≡ v
-put_same m a v x e = cond-true _ v (m x) (eq-eqb x a e)
-
-pub put_other : (m : ℕ → ℕ) (a v x : ℕ) → x ≢ a → put m a v x ≡ m x
-put_other m a v x ne = cond-false _ v (m x) (ne_eqb x a ne)
-
-pub const_is : (v : ℕ) → bit_or (v / 65536 * 2 ^ 16) (v % 65536) ≡ v
-const_is v = or_shifted (v / 65536) 16 (v % 65536) (omega arith) ∙ omega arith
 
 module _ (w : World) (runs : RunsCompose) where
   -- a run of so many steps at most, with Q at its end

@@ -12,6 +12,7 @@ use Rattle.mips_table.specs.Flat.{Flat}
 use Rattle.mips_table.specs.Code.{put, Contents, Behind, CodeState, at_with, Program, on_flat, Sound, CodeAt}
 use Rattle.mips_table.specs.Simulation.{MemoryHolds, nothing_behind, flat_configuration, FlatFits, FlatSimulates}
 use Rattle.mips_table.specs.Borders.{FlatCalls}
+use Rattle.mips_table.proofs.PutsChangeOneWord.{put_other}
 use Rattle.masm.specs.Says.{Gives}
 use Rattle.masm.specs.Laws.{StraightRuns, JumpsLead}
 use Rattle.c0_meaning.specs.World.{all_entries}
@@ -21,12 +22,6 @@ use Rattle.user_c0.specs.Served.{Served, replied, served_next, served, asked_by,
 use Rattle.user_c0.specs.Host.{Here, Told}
 use Rattle.user_c0.proofs.ServedGoesOn.{goes_on, tells_on}
 use Rattle.user_c0.proofs.RepliesInRegister.{IsReplied, replied_so}
-
-put_same : (f : ℕ → ℕ) (a v : ℕ) → put f a v a ≡ v
-put_same f a v = grind arith
-
-put_other : (f : ℕ → ℕ) (a v k : ℕ) → k ≢ a → put f a v k ≡ f k
-put_other f a v k ne = grind arith
 
 -- one entry more
 one_entry : (calls : List (List ℤ)) (entry : ℤ) → all_entries (calls ++ (entry ∷ []) ∷ []) ≡ all_entries calls ++ entry ∷ []

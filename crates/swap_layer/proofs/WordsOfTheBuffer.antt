@@ -1,21 +1,11 @@
--- Words of a function that is written at one place, small offsets, and the words of the disk's buffer.
-use Rattle.std.proofs.Common.{◌≡◌, ◌≢◌, ℕ, ◌+◌, ◌-◌, ◌^◌, ◌<◌, ◌≤◌, ◌&&◌, ◌||◌, not, true, nat_lt, ap, ap₂, ◌∙◌, ⊎_elim, arith, lt-ltb, le-ltb, eq-eqb, ne_eqb}
+-- The words of the disk's buffer, and where the words of a place end.
+use Rattle.std.proofs.Common.{◌≡◌, ℕ, ◌+◌, ◌-◌, ◌<◌, ◌≤◌, ◌&&◌, ◌||◌, not, true, nat_lt, ap, ap₂, ◌∙◌, ⊎_elim, arith, lt-ltb, le-ltb}
 use Rattle.std.specs.Prelude.{◌==◌}
 use Rattle.std.proofs.lemmas.Bool.{cond-true, cond-false}
-use Rattle.mips_table.specs.Arith.{extended}
 use Rattle.mips_table.specs.Device.{BUFFER, SECTOR, is_buffer}
-use Rattle.mips_table.specs.Code.{put, World, Sound, filled}
+use Rattle.mips_table.specs.Code.{World, Sound, filled}
 use Rattle.masm.specs.Says.{is_disk_word}
 use Rattle.swap_layer.specs.Laws.{IsFrameOrBuffer}
-
-pub put_same : (m : ℕ → ℕ) (a v x : ℕ) → x ≡ a → put m a v x ≡ v
-put_same m a v x e = cond-true _ v (m x) (eq-eqb x a e)
-
-pub put_other : (m : ℕ → ℕ) (a v x : ℕ) → x ≢ a → put m a v x ≡ m x
-put_other m a v x ne = cond-false _ v (m x) (ne_eqb x a ne)
-
-pub small_is : (v : ℕ) → v < 32768 → extended v ≡ v
-small_is v lt = cond-true (nat_lt v (2 ^ 15)) v (v + (2 ^ 32 - 2 ^ 16)) (lt-ltb v (2 ^ 15) lt)
 
 -- a word of the buffer
 pub buffer_is : (x : ℕ) → BUFFER ≤ x → x < SECTOR → is_buffer x ≡ true
