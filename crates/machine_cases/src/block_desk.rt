@@ -1,8 +1,8 @@
 // A machine over a disk in memory, with the code that it is to run.
 ghost use Rattle.std.specs.Prelude.{◌≡◌, ◌<◌, length};
 
+use crate::telling::{count, tell};
 use cvm_outside::{DiskFault, MemSectors};
-use cvm_text::{decimal_u64, hex8};
 use mips_machine::{Event, Machine};
 use mips_table::EPC;
 use schedule_file::{Schedule, read};
@@ -35,13 +35,6 @@ impl Model for Desk {
     ghost view = { λ d. d.machine };
 
     ghost invariant = { λ d. DeskFits 32768 8 d.machine d.disk.sectors };
-}
-
-// Appends a name and a word.
-fn tell(told: &mut String, name: &str, word: u32) -> Result<(), AllocError> {
-    told.push_str(name)?;
-    told.push_str(" ")?;
-    told.push_str(hex8(word).as_str())
 }
 
 // The schedule in which the disk is busy for so many steps, a number in decimal, with each of the first ten commands.
@@ -109,8 +102,7 @@ impl Desk {
             let _ = self.step();
             steps = steps.saturating_add(1);
         }
-        told.push_str(" steps ")?;
-        told.push_str(decimal_u64(steps).as_str())?;
+        count(told, " steps", steps)?;
         tell(told, " pc", self.machine.pc())
     }
 

@@ -2,8 +2,9 @@
 ghost use Rattle.std.specs.Prelude.{◌≡◌, ◌<◌, ◌≤◌, length};
 
 use crate::driver::{BEGIN, FIRST, LAST, PAGE, STORE, driver};
+use crate::telling::{count, tell};
 use cvm_outside::{DiskFault, MemSectors, Sectors};
-use cvm_text::{decimal_u64, hex8};
+use cvm_text::decimal_u64;
 use layer_map::{HAND, Map, Params, SLOTS};
 use mips_machine::{Event, Machine};
 use mips_table::IS_VALID;
@@ -39,13 +40,6 @@ impl Model for Desk {
     ghost view = { λ d. d.machine };
 
     ghost invariant = { λ d. DeskFits 65536 64 d.machine d.disk.sectors × PagesFit d.pages d.frames d.tables d.counts d.zeros };
-}
-
-// Appends a name and a number.
-fn count(told: &mut String, name: &str, number: u32) -> Result<(), AllocError> {
-    told.push_str(name)?;
-    told.push_str(" ")?;
-    told.push_str(decimal_u64(u64::from(number)).as_str())
 }
 
 impl Desk {
@@ -208,7 +202,7 @@ impl Desk {
         self.set(BEGIN, 1);
         self.run_to(FIRST);
         let steps = self.run_to(LAST);
-        count(told, " steps", steps)?;
+        count(told, " steps", u64::from(steps))?;
         told.push_str("\n")?;
         self.tell(told)
     }
@@ -259,15 +253,15 @@ impl Desk {
 
     /// Tells the hand, the entries, the counts, the lists and what the pages show.
     pub fn tell(&mut self, told: &mut String) -> Result<(), AllocError> {
-        count(told, " hand", self.word(HAND / 4))?;
+        count(told, " hand", u64::from(self.word(HAND / 4)))?;
         told.push_str(" entries")?;
         for page in 0..self.pages {
-            told.push_str(" ")?;
-            told.push_str(hex8(self.word(self.tables.wrapping_add(page))).as_str())?;
+            tell(told, "", self.word(self.tables.wrapping_add(page)))?;
         }
         told.push_str(" counts")?;
         for frame in 0..self.frames {
-            count(told, "", self.word(self.count_at(frame.wrapping_add(1))))?;
+            let listed = self.word(self.count_at(frame.wrapping_add(1)));
+            count(told, "", u64::from(listed))?;
         }
         told.push_str(" lists")?;
         for frame in 0..self.frames {
@@ -280,8 +274,7 @@ impl Desk {
     fn tell_pages(&mut self, told: &mut String) -> Result<(), AllocError> {
         told.push_str("\n shown")?;
         for page in 0..self.pages {
-            told.push_str(" ")?;
-            told.push_str(hex8(self.shown_number(page)).as_str())?;
+            tell(told, "", self.shown_number(page))?;
         }
         Ok(())
     }

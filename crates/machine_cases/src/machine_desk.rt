@@ -1,8 +1,9 @@
 // A machine over a disk in memory.
 ghost use Rattle.std.specs.Prelude.{◌≡◌, ◌<◌, length};
 
+use crate::telling::{count, tell};
 use cvm_outside::{DiskFault, MemSectors, Sectors};
-use cvm_text::{decimal_u64, hex8};
+use cvm_text::decimal_u64;
 use mips_interrupts::number_of;
 use mips_machine::{Event, Machine};
 use schedule_file::{Schedule, read};
@@ -34,20 +35,6 @@ impl Model for Desk {
     ghost view = { λ d. d.machine };
 
     ghost invariant = { λ d. DeskFits 4096 8 d.machine d.disk.sectors };
-}
-
-// Appends a name and a word.
-fn tell(told: &mut String, name: &str, word: u32) -> Result<(), AllocError> {
-    told.push_str(name)?;
-    told.push_str(" ")?;
-    told.push_str(hex8(word).as_str())
-}
-
-// Appends a name and a number.
-fn count(told: &mut String, name: &str, number: u64) -> Result<(), AllocError> {
-    told.push_str(name)?;
-    told.push_str(" ")?;
-    told.push_str(decimal_u64(number).as_str())
 }
 
 // Appends a name and a word, if the word isn't 0.

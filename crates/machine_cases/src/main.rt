@@ -12,6 +12,7 @@ mod machine_desk;
 mod machines;
 mod maps;
 mod routines;
+mod telling;
 
 use std::alloc::{AllocError, Global};
 use std::{env, fs, io};
