@@ -20,7 +20,7 @@ use Rattle.c0_expr_code.specs.Scope.{Scope}
 use Rattle.c0_expr_code.specs.Bases.{Bases, locals_start, types_in, location_word, word_of_scalar, LocalsHeld}
 use Rattle.c0_meaning.specs.Sizes.{words_before}
 use Rattle.c0_meaning.specs.Addresses.{words_to, words_to_part}
-use Rattle.c0_expr_code.specs.FrameSetting.{frame_back, frame_setting}
+use Rattle.c0_expr_code.specs.FrameSetting.{bytes_back}
 use Rattle.c0_expr_code.specs.Code.{AddressingMode, is_near, low, high, access_code, load_code}
 use Rattle.c0_expr_code.specs.Relation.{layout, StateIsTyped, Ready, KeepsRegisters, Area, Evaluates, HoldsValue, HoldsAddress, Source}
 use Rattle.c0_expr_code.proofs.WordsOfValues.{near_is, far_is}
@@ -193,7 +193,7 @@ module _ (w : World) (sc : Scope) (p : Bases) (live : ℕ → Bool) (s : C0State
 
   pub local_place : (x n r : ℕ) (t : Ty) (c : Contents) (k : Behind) → Ready sc p live s c → sc.in_registers ≡ false
       → slice_get (types_of sc.env.locals) x ≡ Some t
-      → Evaluates w sc 0 n (n + 0) c k (HoldsAddress sc p 29 ((frame_back (frame_setting sc) + (12 + 4 * words_before sc.env.structs (types_of sc.env.locals) x)) % 2 ^ 32) r true t c) (at_no_cost (Ok (record { region = locals; path = x ∷ [] })))
+      → Evaluates w sc 0 n (n + 0) c k (HoldsAddress sc p 29 ((bytes_back sc.frame + (12 + 4 * words_before sc.env.structs (types_of sc.env.locals) x)) % 2 ^ 32) r true t c) (at_no_cost (Ok (record { region = locals; path = x ∷ [] })))
   local_place x n r t c k ready form e =
       let place = first_offset (types_of sc.env.locals) x t e in
       let room = room_from sc.env.structs area.opened (types_of sc.env.locals) (x ∷ []) t (t, e, refl) in
@@ -203,6 +203,6 @@ module _ (w : World) (sc : Scope) (p : Bases) (live : ℕ → Bool) (s : C0State
       let small = f.sound.small in
       let g = ready.frame_at form in
       let begin : locals_start sc p ≡ p.frame_end - sc.frame + 3 = cond-false sc.in_registers 20 (p.frame_end - sc.frame + 3) form in
-      arrives w sc 0 n (n + 0) c c k (HoldsAddress sc p 29 ((frame_back (frame_setting sc) + (12 + 4 * words_before sc.env.structs (types_of sc.env.locals) x)) % 2 ^ 32) r true t c) (record { region = locals; path = x ∷ [] })
+      arrives w sc 0 n (n + 0) c c k (HoldsAddress sc p 29 ((bytes_back sc.frame + (12 + 4 * words_before sc.env.structs (types_of sc.env.locals) x)) % 2 ^ 32) r true t c) (record { region = locals; path = x ∷ [] })
       (record { is = omega (arith, place, room, a, i, o, small, g, begin); leads = (t, e, refl); away = λ q. let z : true ≡ false = q in absurd (cc); standing = λ q. form; keeps = keeps_all r r c })
       (stays w _ _ (ap (λ m. at_with m c k) (omega arith)))

@@ -1,5 +1,7 @@
 -- The code of values and of tests is never empty, and a test's is as long for every distance.
-use Rattle.std.proofs.Common.{◌≡◌, ℕ, ◌+◌, ◌%◌, ◌^◌, ◌≤◌, Bool, true, false, not, cond, nat_eq, nat_lt, Option, Some, None, List, [], ◌∷◌, ◌++◌, length, refl, sym, ◌∙◌, arith, length-append}
+use Rattle.std.proofs.Common.{◌≡◌, ℕ, ◌+◌, ◌%◌, ◌^◌, ◌≤◌, Bool, true, false, not, cond, nat_eq, nat_lt, Option, Some, None, List, [], ◌∷◌, ◌++◌, length, refl, sym, ap, ◌∙◌, arith, length-append, ◌≢◌, ◌⊎◌, inl, inr, ne_eqb}
+use Rattle.std.proofs.lemmas.Bool.{cond-false}
+use Rattle.c0_expr_code.proofs.FactRegisters.{param_below}
 use Rattle.mips_table.specs.declared.inst.Inst.{Inst}
 use Rattle.mips_table.specs.declared.inst.Inst.TheVariants.{Addu, Addiu, Subu, Lw, Xori, Sltiu, Sltu, Mflo, Mfhi, Div as Divide}
 use Rattle.c0_tree.specs.declared.tree.Kind.{Kind}
@@ -9,8 +11,11 @@ use Rattle.c0_tree.specs.declared.tree.UnaryOp.TheVariants.{Negate, Not}
 use Rattle.c0_tree.specs.declared.tree.BinaryOp.{BinaryOp}
 use Rattle.c0_tree.specs.declared.tree.BinaryOp.TheVariants.{Add, Sub, Mul, Div, Rem, Lt, Le, Gt, Ge, Eq, Ne, And, Or}
 use Rattle.c0_tree.specs.Tree.{CExpr, num, true_, false_, null, var, field, arrow, index, deref, address, unary, binary}
+use Rattle.c0_typed.specs.Typed.{typed_of_expr}
+use Rattle.c0_expr_code.specs.declared.facts.Facts.{Facts}
+use Rattle.c0_expr_code.specs.Facts.{holds_answer, holds_param, register_holding, IsFreeRegister}
 use Rattle.c0_expr_code.specs.Scope.{Scope}
-use Rattle.c0_expr_code.specs.Code.{is_near, negated, AddressingMode, Made, constant_code, access_code, operand_code, operand_register, at_place, no_address, global_address, register_made, register_of_variable, local_address, variable_made, one_code, two_code, operator_code, Immediate, when_near, equality_with, immediate, immediate_of, operator_made, sum_made, is_never_zero, divisor_code, division_made, binary_made, negative_made, unary_made, made}
+use Rattle.c0_expr_code.specs.Code.{is_near, negated, AddressingMode, Made, constant_code, access_code, operand_code, operand_register, no_address, global_address, register_made, register_of_variable, local_address, variable_made, frame_made, frame_value, to_code, right_facts, one_code, two_code, operator_code, Immediate, when_near, equality_with, immediate, immediate_of, operator_made, sum_made, is_never_zero, divisor_code, division_made, binary_made, negative_made, unary_made, made}
 use Rattle.c0_expr_code.specs.Test.{branch_code, compare_code, ImmediateTest, immediate_test, immediate_test_of, Testing, compare_test, both_code, binary_test, plain_test, test_code}
 
 -- two codes of lengths
@@ -31,18 +36,40 @@ access_some i r x = behind x.code _ (cond_some (is_near x.displacement) _ _ (ome
 abbrev Filled : Made → Type 0
 Filled m = (d r : ℕ) → 1 ≤ length (m.value d r)
 
-variables : (sc : Scope) (k : Kind) (n : ℕ) → Filled (variable_made sc k n)
-variables sc Global n d r = access_some (λ b k. Lw d b k) r (global_address sc n)
-variables sc Local n d r = by_form sc.in_registers
+-- where variables stand in registers, or the value goes to none that has a variable's word
+abbrev pub GoesFree : Scope → Facts → ℕ → Type 0
+GoesFree sc fs d = (sc.in_registers ≡ true) ⊎ IsFreeRegister fs d
+
+to_some : (d q : ℕ) → d ≢ q → 1 ≤ length (to_code d q)
+to_some d q ne = let e = cond-false (nat_eq d q) [] (Addu d q 0 ∷ []) (ne_eqb d q ne) in let l = ap length e in omega (arith, l)
+
+-- a variable in the frame, whose register is no other than that to which it goes
+framed : (fs : Facts) (x : AddressingMode) (n d r : ℕ) → IsFreeRegister fs d → 1 ≤ length (frame_value (register_holding fs n) x d r)
+framed fs x n d r free = by_answer (holds_answer fs.answer n) refl (holds_param fs n) refl
   where
-    by_form : (b : Bool) → 1 ≤ length ((cond b (register_made (register_of_variable n)) (at_place (λ r. local_address sc n))).value d r)
-    by_form true = omega arith
-    by_form false = access_some (λ b k. Lw d b k) r (local_address sc n)
-variables sc Unresolved n d r = access_some (λ b k. Lw d b k) r (no_address r)
-variables sc Struct n d r = access_some (λ b k. Lw d b k) r (no_address r)
-variables sc Field n d r = access_some (λ b k. Lw d b k) r (no_address r)
-variables sc Function n d r = access_some (λ b k. Lw d b k) r (no_address r)
-variables sc Primitive n d r = access_some (λ b k. Lw d b k) r (no_address r)
+    by_answer : (a : Bool) → holds_answer fs.answer n ≡ a → (b : Bool) → holds_param fs n ≡ b
+        → 1 ≤ length (frame_value (cond a (Some 2) (cond b (Some (register_of_variable n)) None)) x d r)
+    by_answer true ha b hb = to_some d 2 (free.answer n ha)
+    by_answer false ha true hb =
+        let few = param_below fs n hb in
+        let e : 20 + n ≡ register_of_variable n = omega (arith, few) in
+        to_some d (register_of_variable n) (λ z. free.params n hb (z ∙ sym e))
+    by_answer false ha false hb = access_some (λ b k. Lw d b k) r x
+
+variables : (sc : Scope) (fs : Facts) (k : Kind) (n d r : ℕ) → GoesFree sc fs d → 1 ≤ length ((variable_made sc fs k n).value d r)
+variables sc fs Global n d r free = access_some (λ b k. Lw d b k) r (global_address sc n)
+variables sc fs Local n d r free = by_form sc.in_registers refl free
+  where
+    by_form : (b : Bool) → sc.in_registers ≡ b → GoesFree sc fs d
+        → 1 ≤ length ((cond b (register_made (register_of_variable n)) (frame_made (register_holding fs n) (λ r. local_address sc n))).value d r)
+    by_form true e free = omega arith
+    by_form false e (inl q) = absurd (cc)
+    by_form false e (inr free) = framed fs (local_address sc n) n d r free
+variables sc fs Unresolved n d r free = access_some (λ b k. Lw d b k) r (no_address r)
+variables sc fs Struct n d r free = access_some (λ b k. Lw d b k) r (no_address r)
+variables sc fs Field n d r free = access_some (λ b k. Lw d b k) r (no_address r)
+variables sc fs Function n d r free = access_some (λ b k. Lw d b k) r (no_address r)
+variables sc fs Primitive n d r free = access_some (λ b k. Lw d b k) r (no_address r)
 
 one_some : (g : ℕ → List Inst) (m : Made) (r : ℕ) → ((q : ℕ) → 1 ≤ length (g q)) → 1 ≤ length (one_code g m r)
 one_some g m r h = behind (operand_code m r) (g (operand_register m r)) (h (operand_register m r))
@@ -125,19 +152,19 @@ module _ (sc : Scope) where
   unaries Negate m d r = negatives m.literal m d r
   unaries Not m d r = one_some (λ q. Xori d q 1 ∷ []) m r (λ q. omega arith)
 
-  pub value_some : (e : CExpr) → Filled (made sc e)
-  value_some (num p n) d r = constant_some d n
-  value_some (true_ p) d r = constant_some d 1
-  value_some (false_ p) d r = constant_some d 0
-  value_some (null p) d r = constant_some d 0
-  value_some (var x) d r = variables sc x.kind x.number d r
-  value_some (field p e f) d r = access_some (λ b k. Lw d b k) r ((made sc (field p e f)).place r)
-  value_some (arrow p e f) d r = access_some (λ b k. Lw d b k) r ((made sc (arrow p e f)).place r)
-  value_some (index p e i) d r = access_some (λ b k. Lw d b k) r ((made sc (index p e i)).place r)
-  value_some (deref p e) d r = access_some (λ b k. Lw d b k) r ((made sc (deref p e)).place r)
-  value_some (address p e) d r = access_some (λ b k. Addiu d b k) r ((made sc e).place r)
-  value_some (unary p o e) d r = unaries o (made sc e) d r
-  value_some (binary p o a b) d r = binaries o (made sc a) (made sc b) d r
+  pub value_some : (fs : Facts) (e : CExpr) (d r : ℕ) → GoesFree sc fs d → 1 ≤ length ((made sc fs e).value d r)
+  value_some fs (num p n) d r free = constant_some d n
+  value_some fs (true_ p) d r free = constant_some d 1
+  value_some fs (false_ p) d r free = constant_some d 0
+  value_some fs (null p) d r free = constant_some d 0
+  value_some fs (var x) d r free = variables sc fs x.kind x.number d r free
+  value_some fs (field p e f) d r free = access_some (λ b k. Lw d b k) r ((made sc fs (field p e f)).place r)
+  value_some fs (arrow p e f) d r free = access_some (λ b k. Lw d b k) r ((made sc fs (arrow p e f)).place r)
+  value_some fs (index p e i) d r free = access_some (λ b k. Lw d b k) r ((made sc fs (index p e i)).place r)
+  value_some fs (deref p e) d r free = access_some (λ b k. Lw d b k) r ((made sc fs (deref p e)).place r)
+  value_some fs (address p e) d r free = access_some (λ b k. Addiu d b k) r ((made sc fs e).place r)
+  value_some fs (unary p o e) d r free = unaries o (made sc fs e) d r
+  value_some fs (binary p o a b) d r free = binaries o (made sc fs a) (made sc (right_facts o (typed_of_expr sc.env a) fs) b) d r
 
   -- tests
   plain_some : (m : Made) (s : Bool) (far r : ℕ) → 1 ≤ length (plain_test m s far r)
@@ -243,23 +270,23 @@ module _ (sc : Scope) where
   turned_steady : (x : Testing) → Steady x → Steady (λ s far r. x (not s) far r)
   turned_steady x h = record { some = λ s far r. h.some (not s) far r; same = λ s far far' r. h.same (not s) far far' r }
 
-  steady : (e : CExpr) → Steady (test_code sc e)
-  steady (unary p Not e) = turned_steady (test_code sc e) (steady e)
-  steady (unary p Negate e) = plain_steady (made sc (unary p Negate e))
-  steady (binary p o a b) = binary_steady o (made sc (binary p o a b)) (made sc a) (made sc b) (test_code sc a) (test_code sc b) (steady a) (steady b)
-  steady (num p n) = plain_steady (made sc (num p n))
-  steady (true_ p) = plain_steady (made sc (true_ p))
-  steady (false_ p) = plain_steady (made sc (false_ p))
-  steady (null p) = plain_steady (made sc (null p))
-  steady (var x) = plain_steady (made sc (var x))
-  steady (field p e f) = plain_steady (made sc (field p e f))
-  steady (arrow p e f) = plain_steady (made sc (arrow p e f))
-  steady (index p e i) = plain_steady (made sc (index p e i))
-  steady (deref p e) = plain_steady (made sc (deref p e))
-  steady (address p e) = plain_steady (made sc (address p e))
+  steady : (fs : Facts) (e : CExpr) → Steady (test_code sc fs e)
+  steady fs (unary p Not e) = turned_steady (test_code sc fs e) (steady fs e)
+  steady fs (unary p Negate e) = plain_steady (made sc fs (unary p Negate e))
+  steady fs (binary p o a b) = binary_steady o (made sc fs (binary p o a b)) (made sc fs a) (made sc (right_facts o (typed_of_expr sc.env a) fs) b) (test_code sc fs a) (test_code sc (right_facts o (typed_of_expr sc.env a) fs) b) (steady fs a) (steady (right_facts o (typed_of_expr sc.env a) fs) b)
+  steady fs (num p n) = plain_steady (made sc fs (num p n))
+  steady fs (true_ p) = plain_steady (made sc fs (true_ p))
+  steady fs (false_ p) = plain_steady (made sc fs (false_ p))
+  steady fs (null p) = plain_steady (made sc fs (null p))
+  steady fs (var x) = plain_steady (made sc fs (var x))
+  steady fs (field p e f) = plain_steady (made sc fs (field p e f))
+  steady fs (arrow p e f) = plain_steady (made sc fs (arrow p e f))
+  steady fs (index p e i) = plain_steady (made sc fs (index p e i))
+  steady fs (deref p e) = plain_steady (made sc fs (deref p e))
+  steady fs (address p e) = plain_steady (made sc fs (address p e))
 
-  pub test_some : (e : CExpr) (s : Bool) (far r : ℕ) → 1 ≤ length (test_code sc e s far r)
-  test_some e s far r = (steady e).some s far r
+  pub test_some : (fs : Facts) (e : CExpr) (s : Bool) (far r : ℕ) → 1 ≤ length (test_code sc fs e s far r)
+  test_some fs e s far r = (steady fs e).some s far r
 
-  pub test_same : (e : CExpr) (s : Bool) (far far' r : ℕ) → length (test_code sc e s far r) ≡ length (test_code sc e s far' r)
-  test_same e s far far' r = (steady e).same s far far' r
+  pub test_same : (fs : Facts) (e : CExpr) (s : Bool) (far far' r : ℕ) → length (test_code sc fs e s far r) ≡ length (test_code sc fs e s far' r)
+  test_same fs e s far far' r = (steady fs e).same s far far' r

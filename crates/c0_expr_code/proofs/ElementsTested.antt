@@ -70,14 +70,14 @@ module _ (w : World) (sc : Scope) (p : Bases) (live : ℕ → Bool) (s : C0State
   pub indexes : (len : ℕ) (t : Ty) (local : Bool) (x : AddressingMode) (m : Made) (r n : ℕ) (c : Contents) (k : Behind) (e : Costed Location) (i : Costed Value) → k.pending ≡ Idle → 8 ≤ r → r < 19 → Ready sc p live s c → Source r x.base →
       CodeAt w n (tested_address sc (words sc.env.structs t) len x m r).code →
       Evaluates w sc 0 n (n + length x.code) c k (HoldsAddress sc p x.base x.displacement r local (ty.array t len) c) e →
-      ((b : Contents) → Ready sc p live s b → CodeAt w (n + length x.code) (operand_code m (r + 1)) → Source (r + 1) (operand_register m (r + 1)) × Evaluates w sc 0 (n + length x.code) (n + length x.code + length (operand_code m (r + 1))) b k (HoldsValue sc p (operand_register m (r + 1)) (r + 1) (r + 1) ty.int b) i) →
+      ((b : Contents) → KeepsRegisters r r c b → CodeAt w (n + length x.code) (operand_code m (r + 1)) → Source (r + 1) (operand_register m (r + 1)) × Evaluates w sc 0 (n + length x.code) (n + length x.code + length (operand_code m (r + 1))) b k (HoldsValue sc p (operand_register m (r + 1)) (r + 1) (r + 1) ty.int b) i) →
       Evaluates w sc 10 n (n + length (tested_address sc (words sc.env.structs t) len x m r).code) c k (HoldsAddress sc p r x.displacement r local t c) (indexed s e i)
   indexes len t local x m r n c k e i idle lo hi ready source code h op =
       binds w sc 0 10 n n1 to c k (HoldsAddress sc p x.base x.displacement r local (ty.array t len) c) (HoldsAddress sc p r x.displacement r local t c) e _ h
       (λ l b q. keeps_low r r c b (omega arith) q.keeps)
       (λ l b q.
       let ready_b = ready_on sc p live s c b (keeps_low r r c b (omega arith) q.keeps) ready in
-      let o = op b ready_b operand_there in
+      let o = op b q.keeps operand_there in
       binds w sc 0 10 n1 n2 to b k (HoldsValue sc p (operand_register m (r + 1)) (r + 1) (r + 1) ty.int b) (HoldsAddress sc p r x.displacement r local t c) i _ o.1
       (λ v a g. keeps_low (r + 1) (r + 1) b a (omega arith) g.keeps)
       (λ v a g.

@@ -16,10 +16,14 @@ use Rattle.c0_tree.specs.Tree.{CExpr, num, true_, false_, null, var, field, arro
 use Rattle.c0_tree.specs.Size.{need, binary_need}
 use Rattle.c0_meaning.specs.Operators.{KernelFault, NullUse, Bounds, DivZero}
 use Rattle.c0_meaning.specs.TypeAt.{type_at}
+use Rattle.c0_typed.specs.Typed.{typed_of_expr}
+use Rattle.c0_expr_code.specs.declared.facts.Facts.{Facts}
+use Rattle.c0_expr_code.specs.Facts.{is_sure_pointer, register_holding}
 use Rattle.c0_expr_code.specs.Scope.{Scope}
-use Rattle.c0_expr_code.specs.Code.{element_words, length_in, AddressingMode, Made, constant_code, is_near, low, high, access_code, store_code, or_code, operand_code, operand_register, no_address, at_place, constant, only_value, global_address, local_address, register_made, register_of_variable, variable_made, displaced, target_address, bound_code, shift_within, POWERS, scaled_code, scale_code, tested_address, element_address, to_code, two_code, one_code, logic_code, negated, negative_made, unary_made, operator_code, Immediate, when_near, equality_with, immediate, immediate_of, operator_made, sum_made, is_never_zero, divisor_code, division_made, binary_made, made}
+use Rattle.c0_expr_code.specs.Code.{element_words, length_in, AddressingMode, Made, constant_code, is_near, low, high, access_code, store_code, or_code, operand_code, operand_register, no_address, at_place, constant, only_value, global_address, local_address, register_made, register_of_variable, variable_made, frame_made, null_test, right_facts, displaced, target_address, bound_code, shift_within, POWERS, scaled_code, scale_code, tested_address, element_address, to_code, two_code, one_code, logic_code, negated, negative_made, unary_made, operator_code, Immediate, when_near, equality_with, immediate, immediate_of, operator_made, sum_made, is_never_zero, divisor_code, division_made, binary_made, made}
 use Rattle.c0_expr_code.specs.Test.{branch_code, negative_branch, positive_branch, below_code, compare_code, ImmediateTest, immediate_test, immediate_test_of, Testing, compare_test, both_code, binary_test, plain_test, test_code}
 use Rattle.c0_expr_code.proofs.EveryExpression.{need_some}
+use Rattle.c0_expr_code.proofs.FactRegisters.{holding_small}
 
 -- instruction by instruction
 abbrev pub Ranged : List Inst → Type 0
@@ -100,18 +104,25 @@ constant_fine n need literal some = record { some = some; value = λ d r l le. c
     by_zero true q e = let z : 0 ≡ q = cc in omega (arith, z)
     by_zero false q e = absurd (cc)
 
-variables : (sc : Scope) (k : Kind) (n : ℕ) → Fine (variable_made sc k n) 1
-variables sc Global n = places (λ r. global_address sc n) 1 (omega arith) (λ r le. record { code = tt; base = omega arith })
-variables sc Local n = by_form sc.in_registers
+to_fine : (d r : ℕ) → d < 32 → r < 32 → Ranged (to_code d r)
+to_fine d r h g = either (nat_eq d r) [] (Addu d r 0 ∷ []) tt ((h, g, omega arith), tt)
+
+variables : (sc : Scope) (fs : Facts) (k : Kind) (n : ℕ) → Fine (variable_made sc fs k n) 1
+variables sc fs Global n = places (λ r. global_address sc n) 1 (omega arith) (λ r le. record { code = tt; base = omega arith })
+variables sc fs Local n = by_form sc.in_registers
   where
-    by_form : (b : Bool) → Fine (cond b (register_made (register_of_variable n)) (at_place (λ r. local_address sc n))) 1
+    by_register : (o : Option ℕ) → ((q : ℕ) → o ≡ Some q → q < 32) → Fine (frame_made o (λ r. local_address sc n)) 1
+    by_register (Some q) low = record { some = omega arith; value = λ d r l le. to_fine d q l (low q refl); place = λ r le. record { code = tt; base = omega arith }; stands = low }
+    by_register None low = places (λ r. local_address sc n) 1 (omega arith) (λ r le. record { code = tt; base = omega arith })
+
+    by_form : (b : Bool) → Fine (cond b (register_made (register_of_variable n)) (frame_made (register_holding fs n) (λ r. local_address sc n))) 1
     by_form true = record { some = omega arith; value = λ d r l le. ((l, omega arith, omega arith), tt); place = λ r le. no_place r; stands = λ q e. let z : register_of_variable n ≡ q = cc in omega (arith, z) }
-    by_form false = places (λ r. local_address sc n) 1 (omega arith) (λ r le. record { code = tt; base = omega arith })
-variables sc Unresolved n = places no_address 1 (omega arith) (λ r le. no_place r)
-variables sc Struct n = places no_address 1 (omega arith) (λ r le. no_place r)
-variables sc Field n = places no_address 1 (omega arith) (λ r le. no_place r)
-variables sc Function n = places no_address 1 (omega arith) (λ r le. no_place r)
-variables sc Primitive n = places no_address 1 (omega arith) (λ r le. no_place r)
+    by_form false = by_register (register_holding fs n) (holding_small fs n)
+variables sc fs Unresolved n = places no_address 1 (omega arith) (λ r le. no_place r)
+variables sc fs Struct n = places no_address 1 (omega arith) (λ r le. no_place r)
+variables sc fs Field n = places no_address 1 (omega arith) (λ r le. no_place r)
+variables sc fs Function n = places no_address 1 (omega arith) (λ r le. no_place r)
+variables sc fs Primitive n = places no_address 1 (omega arith) (λ r le. no_place r)
 
 shift_small : (n w by : ℕ) → shift_within n w ≡ Some by → by ≤ n + 1
 shift_small zero w by e = absurd (cc)
@@ -207,9 +218,6 @@ sums (Some g) j a b na nb f e h k = values (λ d r. one_code (λ q. g d q) a r) 
 sums None (Some g) a b na nb f e h k = values (λ d r. one_code (λ q. g d q) b r) (max na (nb + 1)) (let s = h.some in omega (arith, s)) (λ d r l le. one_fine (λ q. g d q) b nb r k (omega (arith, le)) (λ q lq. e d q l lq))
 sums None None a b na nb f e h k = values (λ d r. two_code (λ q t. Addu d q t ∷ []) a b r) (max na (nb + 1)) (let s = h.some in omega (arith, s)) (λ d r l le. two_fine (λ q t. Addu d q t ∷ []) a b na nb r h k (omega (arith, le)) (omega (arith, le)) (λ q t lq lt. ((l, lq, lt), tt)))
 
-to_fine : (d r : ℕ) → d < 32 → r < 32 → Ranged (to_code d r)
-to_fine d r h g = either (nat_eq d r) [] (Addu d r 0 ∷ []) tt ((h, g, omega arith), tt)
-
 module _ (sc : Scope) (exits : (f : KernelFault) → sc.exit f < 2 ^ 26) where
   divisor_fine : (sure : Bool) (t : ℕ) → t < 32 → Ranged (divisor_code sc sure t)
   divisor_fine true t h = tt
@@ -250,8 +258,12 @@ module _ (sc : Scope) (exits : (f : KernelFault) → sc.exit f < 2 ^ 26) where
   unaries Negate m need h = negatives m.literal m need h
   unaries Not m need h = values (λ d r. one_code (λ q. Xori d q 1 ∷ []) m r) need h.some (λ d r l le. one_fine (λ q. Xori d q 1 ∷ []) m need r h le (λ q lq. ((l, lq, omega arith), tt)))
 
-  targets : (m : Made) (need r : ℕ) → Fine m need → r + need ≤ 32 → FineAddress (target_address sc m r)
-  targets m need r h le = record { code = both (operand_code m r) _ (operands m need r h le) ((registers m need r h le, omega arith, omega arith), (exits NullUse, tt)); base = registers m need r h le }
+  null_fine : (sure : Bool) (q : ℕ) → q < 32 → Ranged (null_test sc.exit sure q)
+  null_fine true q h = tt
+  null_fine false q h = ((h, omega arith, omega arith), (exits NullUse, tt))
+
+  targets : (sure : Bool) (m : Made) (need r : ℕ) → Fine m need → r + need ≤ 32 → FineAddress (target_address sc sure m r)
+  targets sure m need r h le = record { code = both (operand_code m r) _ (operands m need r h le) (null_fine sure (operand_register m r) (registers m need r h le)); base = registers m need r h le }
 
   tested : (w n : ℕ) (x : AddressingMode) (m : Made) (nm r : ℕ) → FineAddress x → Fine m nm → r + 1 + nm ≤ 32 → FineAddress (tested_address sc w n x m r)
   tested w n x m nm r h g le =
@@ -272,19 +284,19 @@ module _ (sc : Scope) (exits : (f : KernelFault) → sc.exit f < 2 ^ 26) where
       by_test true = record { code = h.code; base = h.base }
       by_test false = tested w n x m nm r h g le
 
-  pub fine : (e : CExpr) → Fine (made sc e) (need e)
-  fine (num p n) = constant_fine n 1 (Some n) (omega arith)
-  fine (true_ p) = constant_fine 1 1 None (omega arith)
-  fine (false_ p) = constant_fine 0 1 None (omega arith)
-  fine (null p) = constant_fine 0 1 None (omega arith)
-  fine (var x) = variables sc x.kind x.number
-  fine (field p e f) = places _ (need e) (need_some e) (λ r le. let h = (fine e).place r le in record { code = h.code; base = h.base })
-  fine (arrow p e f) = places _ (need e) (need_some e) (λ r le. let h = targets (made sc e) (need e) r (fine e) le in record { code = h.code; base = h.base })
-  fine (index p e i) = places _ (max (need e) (need i + 1)) (let s = need_some e in omega (arith, s)) (λ r le. elements (made sc i).literal (element_words sc.env.structs (type_at sc.env e)) (length_in (type_at sc.env e)) ((made sc e).place r) (made sc i) (need i) r ((fine e).place r (omega (arith, le))) (fine i) (omega (arith, le)))
-  fine (deref p e) = places _ (need e) (need_some e) (λ r le. targets (made sc e) (need e) r (fine e) le)
-  fine (address p e) = values _ (need e) (need_some e) (λ d r l le. let s = need_some e in accesses (λ b k. Addiu d b k) r ((made sc e).place r) (omega (arith, s, le)) ((fine e).place r le) (λ b k low m. (l, low, m)))
-  fine (unary p o e) = unaries o (made sc e) (need e) (fine e)
-  fine (binary p o a b) = binaries o (made sc a) (made sc b) (need a) (need b) (fine a) (fine b)
+  pub fine : (fs : Facts) (e : CExpr) → Fine (made sc fs e) (need e)
+  fine fs (num p n) = constant_fine n 1 (Some n) (omega arith)
+  fine fs (true_ p) = constant_fine 1 1 None (omega arith)
+  fine fs (false_ p) = constant_fine 0 1 None (omega arith)
+  fine fs (null p) = constant_fine 0 1 None (omega arith)
+  fine fs (var x) = variables sc fs x.kind x.number
+  fine fs (field p e f) = places _ (need e) (need_some e) (λ r le. let h = (fine fs e).place r le in record { code = h.code; base = h.base })
+  fine fs (arrow p e f) = places _ (need e) (need_some e) (λ r le. let h = targets (is_sure_pointer fs (typed_of_expr sc.env e)) (made sc fs e) (need e) r (fine fs e) le in record { code = h.code; base = h.base })
+  fine fs (index p e i) = places _ (max (need e) (need i + 1)) (let s = need_some e in omega (arith, s)) (λ r le. elements (made sc fs i).literal (element_words sc.env.structs (type_at sc.env e)) (length_in (type_at sc.env e)) ((made sc fs e).place r) (made sc fs i) (need i) r ((fine fs e).place r (omega (arith, le))) (fine fs i) (omega (arith, le)))
+  fine fs (deref p e) = places _ (need e) (need_some e) (λ r le. targets (is_sure_pointer fs (typed_of_expr sc.env e)) (made sc fs e) (need e) r (fine fs e) le)
+  fine fs (address p e) = values _ (need e) (need_some e) (λ d r l le. let s = need_some e in accesses (λ b k. Addiu d b k) r ((made sc fs e).place r) (omega (arith, s, le)) ((fine fs e).place r le) (λ b k low m. (l, low, m)))
+  fine fs (unary p o e) = unaries o (made sc fs e) (need e) (fine fs e)
+  fine fs (binary p o a b) = binaries o (made sc fs a) (made sc (right_facts o (typed_of_expr sc.env a) fs) b) (need a) (need b) (fine fs a) (fine (right_facts o (typed_of_expr sc.env a) fs) b)
 
   -- tests
   branch_fine : (s : Bool) (q t far : ℕ) → q < 32 → t < 32 → far < 2 ^ 16 → InRange (branch_code s q t far)
@@ -379,26 +391,26 @@ module _ (sc : Scope) (exits : (f : KernelFault) → sc.exit f < 2 ^ 26) where
   binary_tests Div m a b x y na nb f h k i j = plains m (max na (nb + 1)) f
   binary_tests Rem m a b x y na nb f h k i j = plains m (max na (nb + 1)) f
 
-  pub tests : (e : CExpr) → Tests (test_code sc e) (need e)
-  tests (unary p Not e) s far r l le = tests e (not s) far r l le
-  tests (unary p Negate e) s far r l le = plains (made sc (unary p Negate e)) (need e) (fine (unary p Negate e)) s far r l le
-  tests (binary p o a b) s far r l le = binary_tests o (made sc (binary p o a b)) (made sc a) (made sc b) (test_code sc a) (test_code sc b) (need a) (need b) (fine (binary p o a b)) (fine a) (fine b) (tests a) (tests b) s far r l le
-  tests e s far r l le = plains (made sc e) (need e) (fine e) s far r l le
+  pub tests : (fs : Facts) (e : CExpr) → Tests (test_code sc fs e) (need e)
+  tests fs (unary p Not e) s far r l le = tests fs e (not s) far r l le
+  tests fs (unary p Negate e) s far r l le = plains (made sc fs (unary p Negate e)) (need e) (fine fs (unary p Negate e)) s far r l le
+  tests fs (binary p o a b) s far r l le = binary_tests o (made sc fs (binary p o a b)) (made sc fs a) (made sc (right_facts o (typed_of_expr sc.env a) fs) b) (test_code sc fs a) (test_code sc (right_facts o (typed_of_expr sc.env a) fs) b) (need a) (need b) (fine fs (binary p o a b)) (fine fs a) (fine (right_facts o (typed_of_expr sc.env a) fs) b) (tests fs a) (tests (right_facts o (typed_of_expr sc.env a) fs) b) s far r l le
+  tests fs e s far r l le = plains (made sc fs e) (need e) (fine fs e) s far r l le
 
-  pub value_in_range : (e : CExpr) (d r : ℕ) → d < 32 → r + need e ≤ 32 → All InRange ((made sc e).value d r)
-  value_in_range e d r l le = all_of ((made sc e).value d r) ((fine e).value d r l le)
+  pub value_in_range : (fs : Facts) (e : CExpr) (d r : ℕ) → d < 32 → r + need e ≤ 32 → All InRange ((made sc fs e).value d r)
+  value_in_range fs e d r l le = all_of ((made sc fs e).value d r) ((fine fs e).value d r l le)
 
-  pub operand_in_range : (e : CExpr) (r : ℕ) → r + need e ≤ 32 → All InRange (operand_code (made sc e) r)
-  operand_in_range e r le = all_of (operand_code (made sc e) r) (operands (made sc e) (need e) r (fine e) le)
+  pub operand_in_range : (fs : Facts) (e : CExpr) (r : ℕ) → r + need e ≤ 32 → All InRange (operand_code (made sc fs e) r)
+  operand_in_range fs e r le = all_of (operand_code (made sc fs e) r) (operands (made sc fs e) (need e) r (fine fs e) le)
 
-  pub register_in_range : (e : CExpr) (r : ℕ) → r + need e ≤ 32 → operand_register (made sc e) r < 32
-  register_in_range e r le = registers (made sc e) (need e) r (fine e) le
+  pub register_in_range : (fs : Facts) (e : CExpr) (r : ℕ) → r + need e ≤ 32 → operand_register (made sc fs e) r < 32
+  register_in_range fs e r le = registers (made sc fs e) (need e) r (fine fs e) le
 
-  pub store_in_range : (e : CExpr) (q r : ℕ) → q < 32 → r + need e ≤ 32 → All InRange (store_code q r ((made sc e).place r))
-  store_in_range e q r l le = let s = need_some e in all_of (store_code q r ((made sc e).place r)) (accesses (λ b k. Sw q b k) r ((made sc e).place r) (omega (arith, s, le)) ((fine e).place r le) (λ b k low m. (l, low, m)))
+  pub store_in_range : (fs : Facts) (e : CExpr) (q r : ℕ) → q < 32 → r + need e ≤ 32 → All InRange (store_code q r ((made sc fs e).place r))
+  store_in_range fs e q r l le = let s = need_some e in all_of (store_code q r ((made sc fs e).place r)) (accesses (λ b k. Sw q b k) r ((made sc fs e).place r) (omega (arith, s, le)) ((fine fs e).place r le) (λ b k low m. (l, low, m)))
 
-  pub place_in_range : (e : CExpr) (r : ℕ) → r + need e ≤ 32 → All InRange ((made sc e).place r).code
-  place_in_range e r le = all_of ((made sc e).place r).code ((fine e).place r le).code
+  pub place_in_range : (fs : Facts) (e : CExpr) (r : ℕ) → r + need e ≤ 32 → All InRange ((made sc fs e).place r).code
+  place_in_range fs e r le = all_of ((made sc fs e).place r).code ((fine fs e).place r le).code
 
-  pub test_in_range : (e : CExpr) (s : Bool) (far r : ℕ) → far < 2 ^ 16 → r + need e ≤ 32 → All InRange (test_code sc e s far r)
-  test_in_range e s far r l le = all_of (test_code sc e s far r) (tests e s far r l le)
+  pub test_in_range : (fs : Facts) (e : CExpr) (s : Bool) (far r : ℕ) → far < 2 ^ 16 → r + need e ≤ 32 → All InRange (test_code sc fs e s far r)
+  test_in_range fs e s far r l le = all_of (test_code sc fs e s far r) (tests fs e s far r l le)

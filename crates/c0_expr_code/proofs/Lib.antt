@@ -1,3 +1,9 @@
+mod FactRegisters
+mod FollowedAreSure
+mod ToldIsSo
+mod SameRegisters
+mod BothSidesKnow
+mod StoresKeepFacts
 mod CodeRuns
 mod OnePartMore
 mod WordsOfValues

@@ -25,9 +25,11 @@ use Rattle.c0_meaning.specs.Value as value
 use Rattle.c0_meaning.specs.Operators.{on_unary}
 use Rattle.c0_meaning.specs.Evaluation.{Costed, costs, at_no_cost, paying, ◌>>=◌, value_of}
 use Rattle.cvm_words.specs.Words.{word_of}
-use Rattle.c0_typed.specs.Typed.{written_number}
+use Rattle.c0_typed.specs.Typed.{typed_of_expr, written_number}
+use Rattle.c0_expr_code.specs.declared.facts.Facts.{Facts}
+use Rattle.c0_expr_code.specs.Facts.{register_holding}
 use Rattle.c0_expr_code.specs.Scope.{Scope}
-use Rattle.c0_expr_code.specs.Code.{Made, at_place, register_made, register_of_variable, local_address, variable_made, negated, negative_made, unary_made, Immediate, immediate_of, operator_made, sum_made, binary_made, made}
+use Rattle.c0_expr_code.specs.Code.{Made, frame_made, right_facts, register_made, register_of_variable, local_address, variable_made, negated, negative_made, unary_made, Immediate, immediate_of, operator_made, sum_made, binary_made, made}
 use Rattle.c0_expr_code.specs.Bases.{Bases, word_of_scalar}
 use Rattle.c0_expr_code.specs.Relation.{layout}
 use Rattle.c0_expr_code.proofs.WordsOfValues.{word_pos, word_negative}
@@ -105,18 +107,18 @@ module _ (sc : Scope) where
   binary_not_constant And a b = record { literal = refl; known = refl }
   binary_not_constant Or a b = record { literal = refl; known = refl }
 
-  variable_not_constant : (k : Kind) (n : ℕ) → IsNotConstant (variable_made sc k n)
-  variable_not_constant Global n = record { literal = refl; known = refl }
-  variable_not_constant Local n = by_form sc.in_registers
+  variable_not_constant : (fs : Facts) (k : Kind) (n : ℕ) → IsNotConstant (variable_made sc fs k n)
+  variable_not_constant fs Global n = record { literal = refl; known = refl }
+  variable_not_constant fs Local n = by_form sc.in_registers
     where
-      by_form : (b : Bool) → IsNotConstant (cond b (register_made (register_of_variable n)) (at_place (λ r. local_address sc n)))
+      by_form : (b : Bool) → IsNotConstant (cond b (register_made (register_of_variable n)) (frame_made (register_holding fs n) (λ r. local_address sc n)))
       by_form true = record { literal = refl; known = refl }
       by_form false = record { literal = refl; known = refl }
-  variable_not_constant Unresolved n = record { literal = refl; known = refl }
-  variable_not_constant Struct n = record { literal = refl; known = refl }
-  variable_not_constant Field n = record { literal = refl; known = refl }
-  variable_not_constant Function n = record { literal = refl; known = refl }
-  variable_not_constant Primitive n = record { literal = refl; known = refl }
+  variable_not_constant fs Unresolved n = record { literal = refl; known = refl }
+  variable_not_constant fs Struct n = record { literal = refl; known = refl }
+  variable_not_constant fs Field n = record { literal = refl; known = refl }
+  variable_not_constant fs Function n = record { literal = refl; known = refl }
+  variable_not_constant fs Primitive n = record { literal = refl; known = refl }
 
   negative_literal : (o : Option ℕ) (m : Made) → (negative_made o m).literal ≡ None
   negative_literal (Some n) m = refl
@@ -130,45 +132,45 @@ module _ (sc : Scope) where
   unary_literal Not m = refl
 
   -- the number that is written is the one that the expression is written as
-  pub literal_written : (e : CExpr) → (made sc e).literal ≡ written_number e
-  literal_written (num p n) = refl
-  literal_written (true_ p) = refl
-  literal_written (false_ p) = refl
-  literal_written (null p) = refl
-  literal_written (var x) = (variable_not_constant x.kind x.number).literal
-  literal_written (field p a f) = refl
-  literal_written (arrow p a f) = refl
-  literal_written (index p a i) = refl
-  literal_written (deref p a) = refl
-  literal_written (address p a) = refl
-  literal_written (unary p o a) = unary_literal o (made sc a)
-  literal_written (binary p o a b) = (binary_not_constant o (made sc a) (made sc b)).literal
+  pub literal_written : (fs : Facts) (e : CExpr) → (made sc fs e).literal ≡ written_number e
+  literal_written fs (num p n) = refl
+  literal_written fs (true_ p) = refl
+  literal_written fs (false_ p) = refl
+  literal_written fs (null p) = refl
+  literal_written fs (var x) = (variable_not_constant fs x.kind x.number).literal
+  literal_written fs (field p a f) = refl
+  literal_written fs (arrow p a f) = refl
+  literal_written fs (index p a i) = refl
+  literal_written fs (deref p a) = refl
+  literal_written fs (address p a) = refl
+  literal_written fs (unary p o a) = unary_literal o (made sc fs a)
+  literal_written fs (binary p o a b) = (binary_not_constant o (made sc fs a) (made sc (right_facts o (typed_of_expr sc.env a) fs) b)).literal
 
   -- and is what the expression comes to
-  pub literal_is : (e : CExpr) (c : ℕ) (s : C0State) → (made sc e).literal ≡ Some c → value_of e s ≡ costs 1 (Ok (int (pos c)))
-  literal_is (num p n) c s e = let q : n ≡ c = cc in ap (λ m. costs 1 (Ok (int (pos m)))) q
-  literal_is (var x) c s e = absurd (none_some _ c (variable_not_constant x.kind x.number).literal e)
-  literal_is (unary p Negate a) c s e = absurd (none_some _ c (negative_literal (made sc a).literal (made sc a)) e)
-  literal_is (unary p Not a) c s e = absurd (cc)
-  literal_is (binary p o a b) c s e = absurd (none_some _ c (binary_not_constant o (made sc a) (made sc b)).literal e)
-  literal_is (true_ p) c s e = absurd (cc)
-  literal_is (false_ p) c s e = absurd (cc)
-  literal_is (null p) c s e = absurd (cc)
-  literal_is (field p a f) c s e = absurd (cc)
-  literal_is (arrow p a f) c s e = absurd (cc)
-  literal_is (index p a i) c s e = absurd (cc)
-  literal_is (deref p a) c s e = absurd (cc)
-  literal_is (address p a) c s e = absurd (cc)
+  pub literal_is : (fs : Facts) (e : CExpr) (c : ℕ) (s : C0State) → (made sc fs e).literal ≡ Some c → value_of e s ≡ costs 1 (Ok (int (pos c)))
+  literal_is fs (num p n) c s e = let q : n ≡ c = cc in ap (λ m. costs 1 (Ok (int (pos m)))) q
+  literal_is fs (var x) c s e = absurd (none_some _ c (variable_not_constant fs x.kind x.number).literal e)
+  literal_is fs (unary p Negate a) c s e = absurd (none_some _ c (negative_literal (made sc fs a).literal (made sc fs a)) e)
+  literal_is fs (unary p Not a) c s e = absurd (cc)
+  literal_is fs (binary p o a b) c s e = absurd (none_some _ c (binary_not_constant o (made sc fs a) (made sc (right_facts o (typed_of_expr sc.env a) fs) b)).literal e)
+  literal_is fs (true_ p) c s e = absurd (cc)
+  literal_is fs (false_ p) c s e = absurd (cc)
+  literal_is fs (null p) c s e = absurd (cc)
+  literal_is fs (field p a f) c s e = absurd (cc)
+  literal_is fs (arrow p a f) c s e = absurd (cc)
+  literal_is fs (index p a i) c s e = absurd (cc)
+  literal_is fs (deref p a) c s e = absurd (cc)
+  literal_is fs (address p a) c s e = absurd (cc)
 
-  pub small_literal : (e : CExpr) (c : ℕ) → HasNumberedType sc.env e ty.int → (made sc e).literal ≡ Some c → FitsSigned w32 (pos c)
-  small_literal _ c (a_number {n = n} h) e = let q : n ≡ c = cc in subst (λ m. FitsSigned w32 (pos m)) q (record { sfits = omega (arith, h) })
-  small_literal (var x) c h e = absurd (none_some _ c (variable_not_constant x.kind x.number).literal e)
-  small_literal (unary p Negate a) c h e = absurd (none_some _ c (negative_literal (made sc a).literal (made sc a)) e)
-  small_literal (binary p o a b) c h e = absurd (none_some _ c (binary_not_constant o (made sc a) (made sc b)).literal e)
-  small_literal (field p a f) c h e = absurd (cc)
-  small_literal (arrow p a f) c h e = absurd (cc)
-  small_literal (index p a i) c h e = absurd (cc)
-  small_literal (deref p a) c h e = absurd (cc)
+  pub small_literal : (fs : Facts) (e : CExpr) (c : ℕ) → HasNumberedType sc.env e ty.int → (made sc fs e).literal ≡ Some c → FitsSigned w32 (pos c)
+  small_literal fs _ c (a_number {n = n} h) e = let q : n ≡ c = cc in subst (λ m. FitsSigned w32 (pos m)) q (record { sfits = omega (arith, h) })
+  small_literal fs (var x) c h e = absurd (none_some _ c (variable_not_constant fs x.kind x.number).literal e)
+  small_literal fs (unary p Negate a) c h e = absurd (none_some _ c (negative_literal (made sc fs a).literal (made sc fs a)) e)
+  small_literal fs (binary p o a b) c h e = absurd (none_some _ c (binary_not_constant o (made sc fs a) (made sc (right_facts o (typed_of_expr sc.env a) fs) b)).literal e)
+  small_literal fs (field p a f) c h e = absurd (cc)
+  small_literal fs (arrow p a f) c h e = absurd (cc)
+  small_literal fs (index p a i) c h e = absurd (cc)
+  small_literal fs (deref p a) c h e = absurd (cc)
 
   module _ (p : Bases) where
     -- an evaluation comes to a value of a known word
@@ -183,37 +185,37 @@ module _ (sc : Scope) where
     negative_word : (n : ℕ) → FitsSigned w32 (pos n) → word_of (int_wrap w32 (neg_ℤ (pos n))) ≡ negated n
     negative_word n h = sym (word_negative (pos n) h) ∙ ap (λ y. (0 + (2 ^ 32 - y)) % 2 ^ 32) (word_pos n h) ∙ omega arith
 
-    pub negative_known : (e : CExpr) (s : C0State) (k : ℕ) (o : Option ℕ) → HasNumberedType sc.env e ty.int → (made sc e).literal ≡ o
-        → (negative_made o (made sc e)).known ≡ Some k → KnownAs ty.int k (paying 1 (value_of e s >>= λ v. at_no_cost (on_unary Negate v)))
-    negative_known e s k None h q g = absurd (cc)
-    negative_known e s k (Some n) h q g =
-        let fits = small_literal e n h q in
+    pub negative_known : (fs : Facts) (e : CExpr) (s : C0State) (k : ℕ) (o : Option ℕ) → HasNumberedType sc.env e ty.int → (made sc fs e).literal ≡ o
+        → (negative_made o (made sc fs e)).known ≡ Some k → KnownAs ty.int k (paying 1 (value_of e s >>= λ v. at_no_cost (on_unary Negate v)))
+    negative_known fs e s k None h q g = absurd (cc)
+    negative_known fs e s k (Some n) h q g =
+        let fits = small_literal fs e n h q in
         let z : negated n ≡ k = cc in
         record {
           units = 1 + (1 + 0);
           value = int (int_wrap w32 (neg_ℤ (pos n)));
-          is = ap (λ (z : Costed Value). paying 1 (z >>= λ v. at_no_cost (on_unary Negate v))) (literal_is e n s q);
+          is = ap (λ (z : Costed Value). paying 1 (z >>= λ v. at_no_cost (on_unary Negate v))) (literal_is fs e n s q);
           some = omega arith;
           fits = SFits-int_wrap w32 _;
           word_is = negative_word n fits ∙ z;
         }
 
-    pub known_is : (e : CExpr) (t : Ty) (s : C0State) (k : ℕ) → HasNumberedType sc.env e t → (made sc e).known ≡ Some k → KnownAs t k (value_of e s)
-    known_is _ _ s k (a_number {n = n} h) e =
+    pub known_is : (fs : Facts) (e : CExpr) (t : Ty) (s : C0State) (k : ℕ) → HasNumberedType sc.env e t → (made sc fs e).known ≡ Some k → KnownAs t k (value_of e s)
+    known_is fs _ _ s k (a_number {n = n} h) e =
         let q : n ≡ k = cc in
         let fits : FitsSigned w32 (pos n) = record { sfits = omega (arith, h) } in
         record { units = 1; value = int (pos n); is = refl; some = omega arith; fits = fits; word_is = word_pos n fits ∙ q }
-    known_is _ _ s k a_true e = let q : 1 ≡ k = cc in record { units = 1; value = bool true; is = refl; some = omega arith; fits = tt; word_is = q }
-    known_is _ _ s k a_false e = let q : 0 ≡ k = cc in record { units = 1; value = bool false; is = refl; some = omega arith; fits = tt; word_is = q }
-    known_is (var x) t s k h e = absurd (none_some _ k (variable_not_constant x.kind x.number).known e)
-    known_is (field p a f) t s k h e = absurd (cc)
-    known_is (arrow p a f) t s k h e = absurd (cc)
-    known_is (index p a i) t s k h e = absurd (cc)
-    known_is (deref p a) t s k h e = absurd (cc)
-    known_is (address p a) t s k h e = absurd (cc)
-    known_is _ _ s k (a_negative {e = a} h) e = negative_known a s k (made sc a).literal h refl e
-    known_is _ _ s k (a_negation {e = a} h) e = absurd (cc)
-    known_is (binary p o a b) t s k h e = absurd (none_some _ k (binary_not_constant o (made sc a) (made sc b)).known e)
+    known_is fs _ _ s k a_true e = let q : 1 ≡ k = cc in record { units = 1; value = bool true; is = refl; some = omega arith; fits = tt; word_is = q }
+    known_is fs _ _ s k a_false e = let q : 0 ≡ k = cc in record { units = 1; value = bool false; is = refl; some = omega arith; fits = tt; word_is = q }
+    known_is fs (var x) t s k h e = absurd (none_some _ k (variable_not_constant fs x.kind x.number).known e)
+    known_is fs (field p a f) t s k h e = absurd (cc)
+    known_is fs (arrow p a f) t s k h e = absurd (cc)
+    known_is fs (index p a i) t s k h e = absurd (cc)
+    known_is fs (deref p a) t s k h e = absurd (cc)
+    known_is fs (address p a) t s k h e = absurd (cc)
+    known_is fs _ _ s k (a_negative {e = a} h) e = negative_known fs a s k (made sc fs a).literal h refl e
+    known_is fs _ _ s k (a_negation {e = a} h) e = absurd (cc)
+    known_is fs (binary p o a b) t s k h e = absurd (none_some _ k (binary_not_constant o (made sc fs a) (made sc (right_facts o (typed_of_expr sc.env a) fs) b)).known e)
 
     pub null_known : (t : Ty) (k : ℕ) → ◌≡◌ {A = Option ℕ} (Some 0) (Some k) → KnownAs (ty.pointer t) k (costs 1 (Ok value.null))
     null_known t k e = let q : 0 ≡ k = cc in record { units = 1; value = value.null; is = refl; some = omega arith; fits = tt; word_is = q }

@@ -13,20 +13,23 @@ use Rattle.c0_tree.specs.Tree.{CName}
 use Rattle.c0_meaning.specs.Value.{Region, globals, heap, locals, Location, Value, int, bool, null, at, group, below}
 use Rattle.c0_meaning.specs.State.{C0State, variables_of, read}
 use Rattle.c0_meaning.specs.Operators.{NullUse, stuck}
-use Rattle.c0_meaning.specs.Evaluation.{Costed, at_no_cost, paying, pointed_to, load_from, field_of, pointed}
+use Rattle.c0_meaning.specs.Evaluation.{Costed, costs, at_no_cost, paying, pointed_to, load_from, field_of, pointed}
 use Rattle.c0_meaning.specs.TypedState.{types_of, LeadsFrom, PointsTo, Fits, PathLeads}
 use Rattle.c0_expr_code.proofs.OnePartMore.{leads_from_on, points_on}
 use Rattle.masm.specs.Says.{Gives as Becomes}
 use Rattle.c0_expr_code.proofs.CodeRuns.{Machine, joined, later, stays, said_step, differ_goes}
 use Rattle.c0_expr_code.specs.Scope.{Scope}
-use Rattle.c0_expr_code.specs.Bases.{Bases, types_in, location_word, word_of_scalar, LocalsHeld}
+use Rattle.c0_expr_code.specs.declared.facts.Facts.{Facts}
+use Rattle.c0_expr_code.specs.Facts.{register_holding}
+use Rattle.c0_expr_code.specs.Bases.{Bases, locals_start, types_in, location_word, word_of_scalar, LocalsHeld}
 use Rattle.c0_meaning.specs.Sizes.{words_before}
 use Rattle.c0_meaning.specs.Addresses.{words_to, words_to_part}
-use Rattle.c0_expr_code.specs.Code.{constant_code, is_near, low}
-use Rattle.c0_expr_code.specs.Relation.{layout, StateIsTyped, Ready, KeepsRegisters, Area, Evaluates, HoldsValue, HoldsAddress}
+use Rattle.c0_expr_code.specs.Code.{constant_code, is_near, low, to_code}
+use Rattle.c0_expr_code.specs.Relation.{layout, StateIsTyped, Ready, HasWordOf, RegistersHold, ReadyWith, KeepsRegisters, Area, Evaluates, HoldsValue, HoldsAddress}
 use Rattle.c0_expr_code.proofs.WordsOfValues.{halves, word_below, near_is, extended_small}
 use Rattle.c0_expr_code.proofs.PartsAtOffsets.{one_word, offset_from_on, field_offset, before_scalars, room_from, region_seen, scalar_held}
-use Rattle.c0_expr_code.proofs.SideBySide.{same_read, other_read, keeps_all, keeps_on, keeps_put, keeps_low, ready_on, more, node, binds, arrives, faults, jumps}
+use Rattle.c0_expr_code.proofs.SideBySide.{same_read, other_read, keeps_all, keeps_on, keeps_put, keeps_low, ready_on, more, node, binds, Answered, answered, arrives, faults, jumps}
+use Rattle.c0_expr_code.proofs.FactRegisters.{held_in}
 use Rattle.c0_expr_code.proofs.AddressingModes.{found}
 use Rattle.c0_meaning.specs.Ty as ty
 
@@ -142,6 +145,65 @@ module _ (w : World) (sc : Scope) (p : Bases) (live : ℕ → Bool) (s : C0State
       (subst (λ o. Evaluates w sc 1 n (n + 1) c k (HoldsValue sc p d r d t c) (paying 0 (at_no_cost (ok_or o stuck)))) (sym g.1)
       (arrives w sc 1 n (n + 1) c (with_reg c d (word_of_scalar sc p g.0)) k (HoldsValue sc p d r d t c) g.0 (record { is = same_read c.regs d (word_of_scalar sc p g.0) nz; fits = g.2; keeps = keeps_put r d (word_of_scalar sc p g.0) c }) one))
 
+  -- a register's word in a register, which may be the same
+  pub record Brought (d q r v n : ℕ) (b : Contents) (k : Behind) : Type 0 where
+    pub core : Contents
+    pub is : reg core.regs d ≡ v
+    pub keeps : KeepsRegisters r d b core
+    pub run : Reaches w 1 (at_with n b k) (at_with (n + length (to_code d q)) core k)
+
+  pub brings : (d q r v n : ℕ) (b : Contents) (k : Behind) → k.pending ≡ Idle → d ≢ 0 → reg b.regs q ≡ v → v < 2 ^ 32 → CodeAt w n (to_code d q)
+      → Brought d q r v n b k
+  brings d q r v n b k idle nz e small there = elim (cases_Bool (nat_eq d q)) [
+    | inl h ↦
+        let len : n ≡ n + length (to_code d q) = omega (arith, ap length (cond-true (nat_eq d q) [] (Addu d q 0 ∷ []) h)) in
+        record { core = b; is = ap (reg b.regs) (eqb-true d q h) ∙ e; keeps = keeps_all r d b; run = later w 0 1 _ _ (omega arith) (stays w _ _ (ap (λ m. at_with m b k) len)) }
+    | inr h ↦
+        let same : to_code d q ≡ Addu d q 0 ∷ [] = cond-false (nat_eq d q) [] (Addu d q 0 ∷ []) h in
+        let len : n + 1 ≡ n + length (to_code d q) = omega (arith, ap length same) in
+        let code = subst (CodeAt w n) same there in
+        let one = said_step w f (Addu d q 0) (Becomes v) n b k code.0 refl idle (let z : reg b.regs q + 0 ≡ v = omega (arith, e) in omega (arith, e, small)) in
+        record { core = with_reg b d v; is = same_read b.regs d v nz; keeps = keeps_put r d v b; run = subst (λ m. Reaches w 1 (at_with n b k) (at_with m (with_reg b d v) k)) len one }
+  ]
+
+  -- a variable in the frame, whose word a register has too
+  has_word : (fs : Facts) (x q : ℕ) (c : Contents) → register_holding fs x ≡ Some q → RegistersHold sc p fs c → HasWordOf sc p c q x × (1 ≤ q)
+  has_word fs x q c e h = elim (held_in fs x q e) [
+    | inl z ↦ (subst (λ y. HasWordOf sc p c y x) (sym z.1) (h.answer x z.0), let y = z.1 in omega (arith, y))
+    | inr z ↦ (subst (λ y. HasWordOf sc p c y x) (sym z.1) (h.params x z.0), let y = z.1 in omega (arith, y))
+  ]
+
+  held_word : (fs : Facts) → sc.in_registers ≡ false → (x q : ℕ) (t : Ty) (c : Contents) → ReadyWith sc p live fs s c → register_holding fs x ≡ Some q
+      → slice_get (types_of sc.env.locals) x ≡ Some t → is_scalar t ≡ true → IsTrue (live x)
+      → (v : Value) × (read s (record { region = locals; path = x ∷ [] }) ≡ Some v) × Fits sc.env.structs (layout sc p) t v × (reg c.regs q ≡ word_of_scalar sc p v)
+  held_word fs form x q t c ready e h scalar is_live =
+      let l : Location = record { region = locals; path = x ∷ [] } in
+      let g = found w sc p live s f area is_typed c (record { region = locals; path = x ∷ [] }) t ready.ready (t, h, refl) (λ z. form) in
+      let place : locals_start sc p + words_before sc.env.structs (types_of sc.env.locals) x ≡ location_word sc p (record { region = locals; path = x ∷ [] }) = omega arith in
+      let has = has_word fs x q c e (ready.facts.registers form) in
+      let is : c.regs q ≡ word_of_scalar sc p g.seen.value = has.0 t h scalar ∙ ap c.memory place ∙ g.same scalar (λ z. is_live) ∙ scalar_held sc p g.whole t g.seen.value _ scalar g.seen.held in
+      let some = has.1 in
+      (g.seen.value, g.seen.is, g.seen.fits, cond-false (nat_eq q 0) 0 (c.regs q) (ne_eqb q 0 (λ z. absurd (omega (arith, z, some)))) ∙ is)
+
+  pub held_operand : (fs : Facts) → sc.in_registers ≡ false → (x q r n : ℕ) (t : Ty) (c : Contents) (k : Behind) → ReadyWith sc p live fs s c
+      → register_holding fs x ≡ Some q → slice_get (types_of sc.env.locals) x ≡ Some t → is_scalar t ≡ true → IsTrue (live x)
+      → Evaluates w sc 0 n (n + 0) c k (HoldsValue sc p q r r t c) (paying 1 (load_from s (at_no_cost (Ok (record { region = locals; path = x ∷ [] })))))
+  held_operand fs form x q r n t c k ready e h scalar is_live =
+      let g = held_word fs form x q t c ready e h scalar is_live in
+      node w sc 0 n (n + 0) c k (HoldsValue sc p q r r t c) (load_from s (at_no_cost (Ok (record { region = locals; path = x ∷ [] })))) (omega arith)
+      (subst (λ o. Evaluates w sc 0 n (n + 0) c k (HoldsValue sc p q r r t c) (paying 0 (at_no_cost (ok_or o stuck)))) (sym g.1)
+      (arrives w sc 0 n (n + 0) c c k (HoldsValue sc p q r r t c) g.0 (record { is = g.3; fits = g.2; keeps = keeps_all r r c }) (stays w _ _ (ap (λ m. at_with m c k) (omega arith)))))
+
+  pub held_value : (fs : Facts) → sc.in_registers ≡ false → (x q d r n : ℕ) (t : Ty) (c : Contents) (k : Behind) → k.pending ≡ Idle → d ≢ 0 → ReadyWith sc p live fs s c
+      → register_holding fs x ≡ Some q → slice_get (types_of sc.env.locals) x ≡ Some t → is_scalar t ≡ true → IsTrue (live x) → CodeAt w n (to_code d q)
+      → Evaluates w sc 0 n (n + length (to_code d q)) c k (HoldsValue sc p d r d t c) (paying 1 (load_from s (at_no_cost (Ok (record { region = locals; path = x ∷ [] })))))
+  held_value fs form x q d r n t c k idle nz ready e h scalar is_live code =
+      let g = held_word fs form x q t c ready e h scalar is_live in
+      let b = brings d q r (word_of_scalar sc p g.0) n c k idle nz g.3 (word_small g.0 t g.2 scalar) code in
+      node w sc 1 n (n + length (to_code d q)) c k (HoldsValue sc p d r d t c) (load_from s (at_no_cost (Ok (record { region = locals; path = x ∷ [] })))) (omega arith)
+      (subst (λ o. Evaluates w sc 1 n (n + length (to_code d q)) c k (HoldsValue sc p d r d t c) (paying 0 (at_no_cost (ok_or o stuck)))) (sym g.1)
+      (arrives w sc 1 n (n + length (to_code d q)) c b.core k (HoldsValue sc p d r d t c) g.0 (record { is = b.is; fits = g.2; keeps = b.keeps }) b.run))
+
   -- a branch over one instruction
   pub skips : (n a b : ℕ) (c : Contents) (k : Behind) → k.pending ≡ Idle → w.code n ≡ Some (Bne a b 1) → reg c.regs a ≢ reg c.regs b
       → Reaches w 1 (at_with n c k) (at_with (n + 2) c k)
@@ -190,6 +252,28 @@ module _ (w : World) (sc : Scope) (p : Bases) (live : ℕ → Bool) (s : C0State
       by_value (int z) b g = absurd g.fits
       by_value (bool z) b g = absurd g.fits
       by_value (group vs) b g = absurd g.fits
+
+  -- of a pointer that isn't null, with no test
+  pub targets_surely : (t : Ty) (q r from n : ℕ) (c : Contents) (k : Behind) (e : Costed Value) → r < 20 → ((u : ℕ) → e ≢ costs u (Ok null))
+      → Evaluates w sc 0 from n c k (HoldsValue sc p q r r (ty.pointer t) c) e
+      → Evaluates w sc 2 from n c k (HoldsAddress sc p q 0 r false t c) (pointed e)
+  targets_surely t q r from n c k e hi sure h =
+      more w sc (0 + 0) 2 from n c k (HoldsAddress sc p q 0 r false t c) (pointed e) (omega arith)
+      (binds w sc 0 0 from n n c k (Answered w sc (HoldsValue sc p q r r (ty.pointer t) c) e) (HoldsAddress sc p q 0 r false t c) e _
+      (answered w sc 0 from n c k (HoldsValue sc p q r r (ty.pointer t) c) e h) (λ v b g. keeps_low r r c b hi g.holds.keeps) (λ v b g. by_value v b g.units g.is g.holds))
+    where
+      by_value : (v : Value) (b : Contents) (u : ℕ) → e ≡ costs u (Ok v) → HoldsValue sc p q r r (ty.pointer t) c v b
+          → Evaluates w sc 0 n n b k (HoldsAddress sc p q 0 r false t c) (at_no_cost (pointed_to v))
+      by_value null b u is g = absurd (sure u is)
+      by_value (at l) b u is g =
+          let room = pointer_room l.region l.path t g.fits in
+          let leads = pointer_leads l.region l.path t g.fits in
+          let word = g.is in
+          let r1 = room.1 in
+          arrives w sc 0 n n b b k (HoldsAddress sc p q 0 r false t c) l (record { is = omega (arith, word, r1); leads = leads.0; away = λ z. g.fits; standing = leads.1; keeps = g.keeps }) (stays w _ _ refl)
+      by_value (int z) b u is g = absurd g.fits
+      by_value (bool z) b u is g = absurd g.fits
+      by_value (group vs) b u is g = absurd g.fits
 
   -- a part of a place
   pub part_leads : (b k j r i : ℕ) (local : Bool) (u t : Ty) (c a : Contents) (l : Location) → PathLeads sc.env.structs u (i ∷ []) t

@@ -3,7 +3,7 @@ use Rattle.std.specs.Prelude.{ℤ, Result, Ok, int_lt, int_le, neg_ℤ, ◌+ℤ�
 use Rattle.std.specs.Int.{int_wrap, w32}
 use Rattle.std.specs.Str.{bytes_eq}
 use Rattle.std.proofs.Common.{◌≡◌, ◌≢◌, inl, inr, ◌⊎◌, ℕ, ◌+◌, ◌*◌, ◌%◌, ◌^◌, ◌<◌, ◌≤◌, Bool, true, false, not, ◌&&◌, nat_eq, nat_lt, Some, List, [], ◌∷◌, ◌++◌, length, refl, sym, ap, ap₂, ◌∙◌, subst, arith, length-append, eq-eqb, ne_eqb, zero, suc, ◌/◌}
-use Rattle.std.proofs.lemmas.Bool.{cases_Bool, cases_eq, cond-true, cond-false, and_parts, and_from, false_from_ne_true, eqb-true}
+use Rattle.std.proofs.lemmas.Bool.{cases_eq, and_parts, and_from, false_from_ne_true}
 use Rattle.std.proofs.lemmas.Int.{SFits-int_wrap, to_z-of_z, of_z-to_z, ints}
 use Rattle.std.proofs.lemmas.Slice.Eq.{bytes_eq-Decides}
 use Rattle.mips_table.specs.declared.inst.Inst.{Inst}
@@ -25,13 +25,14 @@ use Rattle.c0_meaning.specs.TypedState.{Fits, PointsTo}
 use Rattle.masm.specs.Says.{Gives as Becomes, Widens}
 use Rattle.c0_expr_code.proofs.CodeRuns.{Machine, joined, later, stays, code_front, code_back, said_step, differ_goes, taken, passed}
 use Rattle.cvm_words.specs.Words.{word_of, quotient, remainder}
+use Rattle.c0_expr_code.specs.declared.facts.Facts.{Facts}
 use Rattle.c0_expr_code.specs.Scope.{Scope}
 use Rattle.c0_expr_code.specs.Bases.{Bases, location_word, word_of_scalar}
 use Rattle.c0_expr_code.specs.Code.{Made, operand_code, operand_register, two_code, one_code, to_code, logic_code, operator_code, divisor_code}
-use Rattle.c0_expr_code.specs.Relation.{layout, StateIsTyped, Ready, KeepsRegisters, Area, Evaluates, HoldsValue, ValueRuns, OperandRuns}
+use Rattle.c0_expr_code.specs.Relation.{layout, StateIsTyped, ReadyWith, KeepsRegisters, Area, Evaluates, HoldsValue, ValueRuns, OperandRuns}
 use Rattle.c0_expr_code.proofs.WordsOfValues.{plain, word_sum, word_difference, word_negative, word_less, xor_tests, xor_differs, int_words, bool_words, not_flag, not_less}
-use Rattle.c0_expr_code.proofs.SideBySide.{same_read, keeps_all, keeps_on, keeps_in, keeps_put, keeps_low, ready_on, source_kept, node, after, binds, says, onward, ends_at, arrives, other_reg, faults, jumps}
-use Rattle.c0_expr_code.proofs.NodesEvaluate.{word_small, pointer_room, skips, falls}
+use Rattle.c0_expr_code.proofs.SideBySide.{same_read, keeps_all, keeps_on, keeps_in, keeps_put, keeps_low, with_on, Answered, answered as answered_by, source_kept, node, after, binds, says, onward, ends_at, arrives, other_reg, faults, jumps}
+use Rattle.c0_expr_code.proofs.NodesEvaluate.{word_small, pointer_room, skips, falls, brings}
 use Rattle.c0_meaning.specs.Ty as ty
 use Rattle.std.proofs.Math.Nat.{div-le_self}
 use Rattle.c0_expr_code.proofs.ProductsOfWords.{word_product}
@@ -83,9 +84,9 @@ module _ (w : World) (sc : Scope) (p : Bases) (live : ℕ → Bool) (s : C0State
   Finishes code d r t u z on = FinishesFor (λ y. Unit {0}) code d r t u z on
 
   -- both sides, and then the operator
-  pub twos : (P : Value → Type 0) (code : ℕ → ℕ → List Inst) (ma mb : Made) (na nb : ℕ) (on : Value → Value → Result Value Failure) (t u z : Ty) (d r n : ℕ) (c : Contents) (k : Behind) (x y : Costed Value) → k.pending ≡ Idle → 8 ≤ r → r + na ≤ 20 → r + (nb + 1) ≤ 20 → 1 ≤ nb → Ready sc p live s c → CodeAt w n (two_code code ma mb r) →
-      OperandRuns w sc p live s ma na t x → OperandRuns w sc p live s mb nb u y → Answers P y → FinishesFor P code d r t u z on → Evaluates w sc 0 n (n + length (two_code code ma mb r)) c k (HoldsValue sc p d r d z c) (paying 1 (x >>= λ v. y >>= λ w. at_no_cost (on v w)))
-  twos P code ma mb na nb on t u z d r n c k x y idle lo ha hb some ready there oa ob answers finish =
+  pub twos : (fs : Facts) (P : Value → Type 0) (code : ℕ → ℕ → List Inst) (ma mb : Made) (na nb : ℕ) (on : Value → Value → Result Value Failure) (t u z : Ty) (d r n : ℕ) (c : Contents) (k : Behind) (x y : Costed Value) → k.pending ≡ Idle → 8 ≤ r → r + na ≤ 20 → r + (nb + 1) ≤ 20 → 1 ≤ nb → ReadyWith sc p live fs s c → CodeAt w n (two_code code ma mb r) →
+      OperandRuns w sc p live fs s ma na t x → OperandRuns w sc p live fs s mb nb u y → Answers P y → FinishesFor P code d r t u z on → Evaluates w sc 0 n (n + length (two_code code ma mb r)) c k (HoldsValue sc p d r d z c) (paying 1 (x >>= λ v. y >>= λ w. at_no_cost (on v w)))
+  twos fs P code ma mb na nb on t u z d r n c k x y idle lo ha hb some ready there oa ob answers finish =
       let qa = operand_register ma r in
       let qb = operand_register mb (r + 1) in
       let is = operand_code ma r in
@@ -100,7 +101,7 @@ module _ (w : World) (sc : Scope) (p : Bases) (live : ℕ → Bool) (s : C0State
       (binds w sc 0 5 n (n + length (operand_code ma r)) (n + length (two_code code ma mb r)) c k (HoldsValue sc p (operand_register ma r) r r t c) (HoldsValue sc p d r d z c) x _ a.1
       (λ v b g. keeps_low r r c b (omega arith) g.keeps)
       (λ v b g.
-      let ready_b = ready_on sc p live s c b (keeps_low r r c b (omega arith) g.keeps) ready in
+      let ready_b = with_on sc p live fs s c b r lo (omega arith) g.keeps ready in
       let o = ob (r + 1) (n + length (operand_code ma r)) b k idle ready_b (code_front w _ (operand_code mb (r + 1)) (code (operand_register ma r) (operand_register mb (r + 1))) rest) (omega arith) (omega arith) in
       binds w sc 0 5 (n + length (operand_code ma r)) (n + length (operand_code ma r) + length (operand_code mb (r + 1))) (n + length (two_code code ma mb r)) b k (λ v c'. P v × HoldsValue sc p (operand_register mb (r + 1)) (r + 1) (r + 1) u b v c') (HoldsValue sc p d r d z c) y _ (answered w sc 0 _ _ b k (HoldsValue sc p (operand_register mb (r + 1)) (r + 1) (r + 1) u b) P y answers o.1)
       (λ e i h. keeps_low (r + 1) (r + 1) b i (omega arith) h.1.keeps)
@@ -114,9 +115,9 @@ module _ (w : World) (sc : Scope) (p : Bases) (live : ℕ → Bool) (s : C0State
   FinishesOne code d r t z on = (x : Value) (q n : ℕ) (a : Contents) (k : Behind) → k.pending ≡ Idle → Fits sc.env.structs (layout sc p) t x
       → reg a.regs q ≡ word_of_scalar sc p x → CodeAt w n (code q) → Evaluates w sc 5 n (n + length (code q)) a k (HoldsValue sc p d r d z a) (at_no_cost (on x))
 
-  pub ones : (code : ℕ → List Inst) (m : Made) (need : ℕ) (on : Value → Result Value Failure) (t z : Ty) (d r n : ℕ) (c : Contents) (k : Behind) (x : Costed Value) → k.pending ≡ Idle → 8 ≤ r → r + need ≤ 20 → 1 ≤ need → Ready sc p live s c → CodeAt w n (one_code code m r) →
-      OperandRuns w sc p live s m need t x → FinishesOne code d r t z on → Evaluates w sc 0 n (n + length (one_code code m r)) c k (HoldsValue sc p d r d z c) (paying 1 (x >>= λ v. at_no_cost (on v)))
-  ones code m need on t z d r n c k x idle lo hi some ready there o finish =
+  pub ones : (fs : Facts) (code : ℕ → List Inst) (m : Made) (need : ℕ) (on : Value → Result Value Failure) (t z : Ty) (d r n : ℕ) (c : Contents) (k : Behind) (x : Costed Value) → k.pending ≡ Idle → 8 ≤ r → r + need ≤ 20 → 1 ≤ need → ReadyWith sc p live fs s c → CodeAt w n (one_code code m r) →
+      OperandRuns w sc p live fs s m need t x → FinishesOne code d r t z on → Evaluates w sc 0 n (n + length (one_code code m r)) c k (HoldsValue sc p d r d z c) (paying 1 (x >>= λ v. at_no_cost (on v)))
+  ones fs code m need on t z d r n c k x idle lo hi some ready there o finish =
       let a = o r n c k idle ready (code_front w n (operand_code m r) (code (operand_register m r)) there) lo hi in
       let len : n + length (operand_code m r) + length (code (operand_register m r)) ≡ n + length (one_code code m r) = omega (arith, length-append (operand_code m r) (code (operand_register m r))) in
       node w sc 5 n (n + length (one_code code m r)) c k (HoldsValue sc p d r d z c) (x >>= λ v. at_no_cost (on v)) (omega arith)
@@ -380,26 +381,6 @@ module _ (w : World) (sc : Scope) (p : Bases) (live : ℕ → Bool) (s : C0State
     on = λ a e. let near = f.sound.inside n _ there in let small = f.sound.small in differ_goes w f n a k r 0 len (n + 1) idle there (ap (λ y. branch (4 * n) len (not y)) (eq-eqb (reg a.regs r) 0 e) ∙ omega arith);
   }
 
-  record Brought (d r v n : ℕ) (b : Contents) (k : Behind) : Type 0 where
-    core : Contents
-    is : reg core.regs d ≡ v
-    keeps : KeepsRegisters r d b core
-    run : Reaches w 1 (at_with n b k) (at_with (n + length (to_code d r)) core k)
-
-  brings : (d r v n : ℕ) (b : Contents) (k : Behind) → k.pending ≡ Idle → d ≢ 0 → reg b.regs r ≡ v → v < 2 ^ 32 → CodeAt w n (to_code d r)
-      → Brought d r v n b k
-  brings d r v n b k idle nz e small there = elim (cases_Bool (nat_eq d r)) [
-    | inl h ↦
-        let len : n ≡ n + length (to_code d r) = omega (arith, ap length (cond-true (nat_eq d r) [] (Addu d r 0 ∷ []) h)) in
-        record { core = b; is = ap (reg b.regs) (eqb-true d r h) ∙ e; keeps = keeps_all r d b; run = later w 0 1 _ _ (omega arith) (stays w _ _ (ap (λ m. at_with m b k) len)) }
-    | inr h ↦
-        let same : to_code d r ≡ Addu d r 0 ∷ [] = cond-false (nat_eq d r) [] (Addu d r 0 ∷ []) h in
-        let len : n + 1 ≡ n + length (to_code d r) = omega (arith, ap length same) in
-        let code = subst (CodeAt w n) same there in
-        let one = said_step w f (Addu d r 0) (Becomes v) n b k code.0 refl idle (let z : reg b.regs r + 0 ≡ v = omega (arith, e) in omega (arith, e, small)) in
-        record { core = with_reg b d v; is = same_read b.regs d v nz; keeps = keeps_put r d v b; run = subst (λ m. Reaches w 1 (at_with n b k) (at_with m (with_reg b d v) k)) len one }
-  ]
-
   -- the bool that a value in a register is
   truths : (r n to : ℕ) (c : Contents) (k : Behind) (x : Costed Value) → r < 20 → Evaluates w sc 0 n to c k (HoldsValue sc p r r r ty.bool c) x
       → Evaluates w sc 0 n to c k (λ y b. (reg b.regs r ≡ flag y) × KeepsRegisters r r c b) (truth x)
@@ -423,14 +404,15 @@ module _ (w : World) (sc : Scope) (p : Bases) (live : ℕ → Bool) (s : C0State
   flag_below true = omega arith
   flag_below false = omega arith
 
-  pub logics : (i : ℕ → Inst) (decides : Bool) (ma mb : Made) (na nb d r n : ℕ) (c : Contents) (k : Behind) (x y : Costed Value) (rest : Bool → Costed Value) → k.pending ≡ Idle → 8 ≤ r → r + na ≤ 20 → r + nb ≤ 20 → 1 ≤ nb → d ≢ 0 → d ≢ 1 → Ready sc p live s c → CodeAt w n (logic_code i ma mb d r) →
+  pub logics : (fs right : Facts) (i : ℕ → Inst) (decides : Bool) (ma mb : Made) (na nb d r n : ℕ) (c : Contents) (k : Behind) (x y : Costed Value) (rest : Bool → Costed Value) → k.pending ≡ Idle → 8 ≤ r → r + na ≤ 20 → r + nb ≤ 20 → 1 ≤ nb → d ≢ 0 → d ≢ 1 → ReadyWith sc p live fs s c → CodeAt w n (logic_code i ma mb d r) →
       ((m : ℕ) → w.code m ≡ Some (i (length (mb.value r r) % 2 ^ 16)) → Skip (i (length (mb.value r r) % 2 ^ 16)) decides r (length (mb.value r r)) m k) →
       rest decides ≡ at_no_cost (Ok (bool decides)) → rest (not decides) ≡ y →
-      ValueRuns w sc p live s ma na ty.bool x → ValueRuns w sc p live s mb nb ty.bool y → Evaluates w sc 0 n (n + length (logic_code i ma mb d r)) c k (HoldsValue sc p d r d ty.bool c) (paying 1 (truth x >>= rest))
-  logics i decides ma mb na nb d r n c k x y rest idle lo ha hb some nz no1 ready there skip stop go va vb =
+      ValueRuns w sc p live fs s ma na ty.bool x → ValueRuns w sc p live right s mb nb ty.bool y
+      → ((u : ℕ) (b : Contents) → truth x ≡ costs u (Ok (not decides)) → ReadyWith sc p live fs s b → ReadyWith sc p live right s b) → Evaluates w sc 0 n (n + length (logic_code i ma mb d r)) c k (HoldsValue sc p d r d ty.bool c) (paying 1 (truth x >>= rest))
+  logics fs right i decides ma mb na nb d r n c k x y rest idle lo ha hb some nz no1 ready there skip stop go va vb told =
       node w sc 2 n to c k R (truth x >>= rest) (omega arith)
-      (binds w sc 0 2 n n1 to c k Q R (truth x) rest (truths r n n1 c k x (omega arith) (va r r n c k idle ready (code_front w n is tail there) lo ha (λ z. absurd (omega (arith, z, lo))) (λ z. absurd (omega (arith, z, lo)))))
-      (λ z b g. keeps_low r r c b (omega arith) g.1) by_bool)
+      (binds w sc 0 2 n n1 to c k (Answered w sc Q (truth x)) R (truth x) rest (answered_by w sc 0 n n1 c k Q (truth x) (truths r n n1 c k x (omega arith) (va r r n c k idle ready (code_front w n is tail there) lo ha (λ z. absurd (omega (arith, z, lo))) (λ z. absurd (omega (arith, z, lo))))))
+      (λ z b g. keeps_low r r c b (omega arith) g.holds.1) by_bool)
     where
       is : List Inst
       is = ma.value r r
@@ -467,22 +449,22 @@ module _ (w : World) (sc : Scope) (p : Bases) (live : ℕ → Bool) (s : C0State
 
       decided : (b : Contents) → reg b.regs r ≡ flag decides → KeepsRegisters r r c b → Evaluates w sc 2 n1 to b k R (at_no_cost (Ok (bool decides)))
       decided b e keeps =
-          let a = brings d r (flag decides) n2 b k idle nz e (flag_below decides) to_there in
+          let a = brings w sc p live s f area is_typed d r r (flag decides) n2 b k idle nz e (flag_below decides) to_there in
           let run = joined w 1 1 _ _ _ ((skip n1 tail_there.0).over b e) a.run in
           arrives w sc 2 n1 to b a.core k R (bool decides) (record { is = a.is; fits = tt; keeps = keeps_on r d c b a.core (keeps_in r r d c b (omega arith) (omega arith) keeps) a.keeps }) (subst (λ m. Reaches w (1 + 1) (at_with n1 b k) (at_with m a.core k)) len run)
 
-      undecided : (b : Contents) → reg b.regs r ≡ flag (not decides) → KeepsRegisters r r c b → Evaluates w sc 2 n1 to b k R y
-      undecided b e keeps =
-          let ready_b = ready_on sc p live s c b (keeps_low r r c b (omega arith) keeps) ready in
+      undecided : (u : ℕ) (b : Contents) → truth x ≡ costs u (Ok (not decides)) → reg b.regs r ≡ flag (not decides) → KeepsRegisters r r c b → Evaluates w sc 2 n1 to b k R y
+      undecided u b is e keeps =
+          let ready_b = told u b is (with_on sc p live fs s c b r lo (omega arith) keeps ready) in
           after w sc 1 1 n1 (n1 + 1) to b b k R y (keeps_all 0 0 b) ((skip n1 tail_there.0).on b e)
           (onward w sc 0 1 (n1 + 1) n2 to b k (HoldsValue sc p r r r ty.bool b) R y
           (vb r r (n1 + 1) b k idle ready_b (code_front w (n1 + 1) js (to_code d r) tail_there.1) lo hb (λ z. absurd (omega (arith, z, lo))) (λ z. absurd (omega (arith, z, lo))))
           (λ v j h.
-          let a = brings d r (word_of_scalar sc p v) n2 j k idle nz h.is (word_small w sc p live s f area is_typed v ty.bool h.fits refl) to_there in
+          let a = brings w sc p live s f area is_typed d r r (word_of_scalar sc p v) n2 j k idle nz h.is (word_small w sc p live s f area is_typed v ty.bool h.fits refl) to_there in
           (a.core, record { is = a.is; fits = h.fits; keeps = keeps_on r d c b a.core (keeps_in r r d c b (omega arith) (omega arith) keeps) (keeps_on r d b j a.core (keeps_in r r d b j (omega arith) (omega arith) h.keeps) a.keeps) }, subst (λ m. Reaches w 1 (at_with n2 j k) (at_with m a.core k)) len a.run)))
 
-      by_bool : (z : Bool) (b : Contents) → Q z b → Evaluates w sc 2 n1 to b k R (rest z)
-      by_bool z b g = elim (either z decides) [
+      by_bool : (z : Bool) (b : Contents) → Answered w sc Q (truth x) z b → Evaluates w sc 2 n1 to b k R (rest z)
+      by_bool z b a = let g = a.holds in elim (either z decides) [
         | inl e ↦ subst (λ o. Evaluates w sc 2 n1 to b k R o) (sym (ap rest e ∙ stop)) (decided b (g.0 ∙ ap flag e) g.1)
-        | inr e ↦ subst (λ o. Evaluates w sc 2 n1 to b k R o) (sym (ap rest e ∙ go)) (undecided b (g.0 ∙ ap flag e) g.1)
+        | inr e ↦ subst (λ o. Evaluates w sc 2 n1 to b k R o) (sym (ap rest e ∙ go)) (undecided a.units b (a.is ∙ ap (λ (y : Bool). costs a.units (Ok y)) e) (g.0 ∙ ap flag e) g.1)
       ]

@@ -14,7 +14,7 @@ use Rattle.c0_typed.specs.declared.sorted.Plain.TheVariants.{Sum, Difference, Pr
 use Rattle.c0_typed.specs.Sorted.{order_of, plain_of}
 use Rattle.c0_typed.specs.Tree.{TExpr, negation, plain, both, either}
 use Rattle.c0_expr_code.specs.Code.{low, is_near, Made, operand_code, operand_register}
-use Rattle.c0_expr_code.specs.FrameSetting.{FrameSetting}
+use Rattle.c0_expr_code.specs.FrameSetting.{FrameSetting, where_told}
 use Rattle.c0_expr_code.specs.Jumps.{Unpatched, last_unpatched, behind_unpatched, joined_unpatched, both_unpatched, aimed_word, patched}
 use Rattle.c0_expr_code.specs.Node.{node_made, node_test, order_test}
 use Rattle.c0_expr_code.specs.NodeJumps.{node_unpatched, NodePatchesAim, NodeJumpsAreWithin}
@@ -261,20 +261,20 @@ orders (Order o) m a b s r = compares (immediate_test_of (order_of o) b.known) (
 orders Equal m a b s r = compares None (plain_of Equal) a b s r tt eq
 orders Different m a b s r = compares None (plain_of Different) a b s r tt ne
 
-module _ (st : FrameSetting) where
-  boths : (decides s : Bool) (a b : TExpr) (r : ℕ) → ((s : Bool) → AimsAt (node_unpatched st a s r) (λ far. node_test st a s far r)) → ((s : Bool) → AimsAt (node_unpatched st b s r) (λ far. node_test st b s far r))
-      → AimsAt (both_unpatched decides s (node_test st a) (node_unpatched st a) (node_unpatched st b) r) (λ far. both_code decides s (node_test st a) (node_test st b) far r)
-  boths true true a b r h k = joins (node_unpatched st a true r) (node_unpatched st b true r) (λ far. node_test st a true far r) (λ far. node_test st b true far r) (h true) (k true)
-  boths true false a b r h k = over (λ n. node_test st a true n r) (node_unpatched st b false r) (λ far. node_test st b false far r) (k false)
-  boths false true a b r h k = over (λ n. node_test st a false n r) (node_unpatched st b true r) (λ far. node_test st b true far r) (k true)
-  boths false false a b r h k = joins (node_unpatched st a false r) (node_unpatched st b false r) (λ far. node_test st a false far r) (λ far. node_test st b false far r) (h false) (k false)
+-- both tests, of which the second goes by what the first told
+boths : (st su : FrameSetting) (decides s : Bool) (a b : TExpr) (r : ℕ) → ((s : Bool) → AimsAt (node_unpatched st a s r) (λ far. node_test st a s far r)) → ((s : Bool) → AimsAt (node_unpatched su b s r) (λ far. node_test su b s far r))
+    → AimsAt (both_unpatched decides s (node_test st a) (node_unpatched st a) (node_unpatched su b) r) (λ far. both_code decides s (node_test st a) (node_test su b) far r)
+boths st su true true a b r h k = joins (node_unpatched st a true r) (node_unpatched su b true r) (λ far. node_test st a true far r) (λ far. node_test su b true far r) (h true) (k true)
+boths st su true false a b r h k = over (λ n. node_test st a true n r) (node_unpatched su b false r) (λ far. node_test su b false far r) (k false)
+boths st su false true a b r h k = over (λ n. node_test st a false n r) (node_unpatched su b true r) (λ far. node_test su b true far r) (k true)
+boths st su false false a b r h k = joins (node_unpatched st a false r) (node_unpatched su b false r) (λ far. node_test st a false far r) (λ far. node_test su b false far r) (h false) (k false)
 
-  pub aims : (e : TExpr) (s : Bool) (r : ℕ) → AimsAt (node_unpatched st e s r) (λ far. node_test st e s far r)
-  aims (negation e) s r = aims e (not s) r
-  aims (plain o a b) s r = orders o (node_made st (plain o a b)) (node_made st a) (node_made st b) s r
-  aims (both a b) s r = boths false s a b r (λ s. aims a s r) (λ s. aims b s r)
-  aims (either a b) s r = boths true s a b r (λ s. aims a s r) (λ s. aims b s r)
-  aims e s r = plains (node_made st e) s r
+pub aims : (st : FrameSetting) (e : TExpr) (s : Bool) (r : ℕ) → AimsAt (node_unpatched st e s r) (λ far. node_test st e s far r)
+aims st (negation e) s r = aims st e (not s) r
+aims st (plain o a b) s r = orders o (node_made st (plain o a b)) (node_made st a) (node_made st b) s r
+aims st (both a b) s r = boths st (where_told st a true) false s a b r (λ s. aims st a s r) (λ s. aims (where_told st a true) b s r)
+aims st (either a b) s r = boths st (where_told st a false) true s a b r (λ s. aims st a s r) (λ s. aims (where_told st a false) b s r)
+aims st e s r = plains (node_made st e) s r
 
 pub node_patches : NodePatchesAim
 node_patches st e s r far to before after short small aim = (aims st e s r).law far to before after short small aim

@@ -10,10 +10,13 @@ use Rattle.c0_tree.specs.declared.tree.BinaryOp.{BinaryOp}
 use Rattle.c0_tree.specs.declared.tree.BinaryOp.TheVariants.{Add, Sub, Mul, Div, Rem, Lt, Le, Gt, Ge, Eq, Ne, And, Or}
 use Rattle.c0_tree.specs.Tree.{CExpr, num, true_, false_, null, var, field, arrow, index, deref, address, unary, binary}
 use Rattle.c0_tree.specs.Size.{nodes}
-use Rattle.c0_meaning.specs.Operators.{NullUse, Bounds}
+use Rattle.c0_meaning.specs.Operators.{Bounds}
 use Rattle.c0_meaning.specs.TypeAt.{type_at}
+use Rattle.c0_typed.specs.Typed.{typed_of_expr}
+use Rattle.c0_expr_code.specs.declared.facts.Facts.{Facts}
+use Rattle.c0_expr_code.specs.Facts.{is_sure_pointer, register_holding}
 use Rattle.c0_expr_code.specs.Scope.{Scope}
-use Rattle.c0_expr_code.specs.Code.{element_words, length_in, AddressingMode, Made, constant_code, is_near, low, high, access_code, or_code, operand_code, operand_register, no_address, at_place, constant, only_value, global_address, local_address, register_made, register_of_variable, variable_made, displaced, target_address, bound_code, shift_within, POWERS, scaled_code, scale_code, element_code, tested_address, element_address, to_code, two_code, one_code, logic_code, negated, negative_made, unary_made, operator_code, Immediate, when_near, equality_with, immediate, immediate_of, operator_made, sum_made, is_never_zero, divisor_code, division_made, binary_made, made}
+use Rattle.c0_expr_code.specs.Code.{element_words, length_in, AddressingMode, Made, constant_code, is_near, low, high, access_code, or_code, operand_code, operand_register, no_address, at_place, constant, only_value, global_address, local_address, register_made, register_of_variable, variable_made, frame_made, null_test, right_facts, displaced, target_address, bound_code, shift_within, POWERS, scaled_code, scale_code, element_code, tested_address, element_address, to_code, two_code, one_code, logic_code, negated, negative_made, unary_made, operator_code, Immediate, when_near, equality_with, immediate, immediate_of, operator_made, sum_made, is_never_zero, divisor_code, division_made, binary_made, made}
 
 cond_length : (b : Bool) (is js : List Inst) (n : ℕ) → length is ≤ n → length js ≤ n → length (cond b is js) ≤ n
 cond_length true is js n h g = h
@@ -105,18 +108,25 @@ few_of : (o : BinaryOp) (k : Option ℕ) → Few (immediate_of o k)
 few_of o None = tt
 few_of o (Some k) = few o k
 
-variables : (sc : Scope) (k : Kind) (n : ℕ) → Short (variable_made sc k n) 1
-variables sc Global n = places (λ r. global_address sc n) 1 (λ r. omega arith)
-variables sc Local n = by_form sc.in_registers
+to_length : (d r : ℕ) → length (to_code d r) ≤ 1
+to_length d r = cond_length (nat_eq d r) [] (Addu d r 0 ∷ []) 1 (omega arith) (omega arith)
+
+variables : (sc : Scope) (fs : Facts) (k : Kind) (n : ℕ) → Short (variable_made sc fs k n) 1
+variables sc fs Global n = places (λ r. global_address sc n) 1 (λ r. omega arith)
+variables sc fs Local n = by_form sc.in_registers
   where
-    by_form : (b : Bool) → Short (cond b (register_made (register_of_variable n)) (at_place (λ r. local_address sc n))) 1
+    by_register : (o : Option ℕ) → Short (frame_made o (λ r. local_address sc n)) 1
+    by_register (Some q) = record { value = λ d r. let a = to_length d q in omega (arith, a); place = λ r. omega arith }
+    by_register None = places (λ r. local_address sc n) 1 (λ r. omega arith)
+
+    by_form : (b : Bool) → Short (cond b (register_made (register_of_variable n)) (frame_made (register_holding fs n) (λ r. local_address sc n))) 1
     by_form true = record { value = λ d r. omega arith; place = λ r. omega arith }
-    by_form false = places (λ r. local_address sc n) 1 (λ r. omega arith)
-variables sc Unresolved n = places no_address 1 (λ r. omega arith)
-variables sc Struct n = places no_address 1 (λ r. omega arith)
-variables sc Field n = places no_address 1 (λ r. omega arith)
-variables sc Function n = places no_address 1 (λ r. omega arith)
-variables sc Primitive n = places no_address 1 (λ r. omega arith)
+    by_form false = by_register (register_holding fs n)
+variables sc fs Unresolved n = places no_address 1 (λ r. omega arith)
+variables sc fs Struct n = places no_address 1 (λ r. omega arith)
+variables sc fs Field n = places no_address 1 (λ r. omega arith)
+variables sc fs Function n = places no_address 1 (λ r. omega arith)
+variables sc fs Primitive n = places no_address 1 (λ r. omega arith)
 
 scaled_length : (o : Option ℕ) (w q : ℕ) → length (scaled_code o w q) ≤ 4
 scaled_length (Some by) w q = omega arith
@@ -126,11 +136,16 @@ scaled_length None w q =
     omega (arith, a, b)
 
 module _ (sc : Scope) where
-  targets : (m : Made) (k : ℕ) → Short m k → (r : ℕ) → length (target_address sc m r).code + 3 ≤ 14 * (k + 1)
-  targets m k h r =
+  null_length : (sure : Bool) (q : ℕ) → length (null_test sc.exit sure q) ≤ 2
+  null_length true q = omega arith
+  null_length false q = omega arith
+
+  targets : (sure : Bool) (m : Made) (k : ℕ) → Short m k → (r : ℕ) → length (target_address sc sure m r).code + 3 ≤ 14 * (k + 1)
+  targets sure m k h r =
       let a = operand_length m k r h in
-      let b = length-append (operand_code m r) (Bne (operand_register m r) 0 1 ∷ J (sc.exit NullUse) ∷ []) in
-      omega (arith, a, b)
+      let b = length-append (operand_code m r) (null_test sc.exit sure (operand_register m r)) in
+      let c = null_length sure (operand_register m r) in
+      omega (arith, a, b, c)
 
   bound_length : (q n : ℕ) → length (bound_code q n) ≤ 3
   bound_length q n = cond_length (nat_lt n (2 ^ 15)) (Sltiu 1 q n ∷ []) (constant_code 1 n ++ (Sltu 1 q 1 ∷ [])) 3 (omega arith) (let a = constant_length 1 n in let b = length-append (constant_code 1 n) (Sltu 1 q 1 ∷ []) in omega (arith, a, b))
@@ -160,9 +175,6 @@ module _ (sc : Scope) where
       by_test : (b : Bool) → length (cond b (displaced (4 * (c * w)) x) (tested_address sc w n x m r)).code + 3 ≤ 14 * (j + k + 1)
       by_test true = omega (arith, h)
       by_test false = tested_length w n x m j k r h g
-
-  to_length : (d r : ℕ) → length (to_code d r) ≤ 1
-  to_length d r = cond_length (nat_eq d r) [] (Addu d r 0 ∷ []) 1 (omega arith) (omega arith)
 
   logic_length : (i : ℕ → Inst) (a b : Made) (j k d r : ℕ) → Short a j → Short b k → length (logic_code i a b d r) ≤ 14 * (j + k + 1)
   logic_length i a b j k d r h g =
@@ -230,20 +242,20 @@ module _ (sc : Scope) where
   unaries Negate m k h = negatives m.literal m k h
   unaries Not m k h = values (λ d r. one_code (λ q. Xori d q 1 ∷ []) m r) (k + 1) (omega arith) (λ d r. let y = one_length (λ q. Xori d q 1 ∷ []) m k r (λ q. omega arith) h in omega (arith, y))
 
-  pub short : (e : CExpr) → Short (made sc e) (nodes e)
-  short (num p n) = constants n (Some n)
-  short (true_ p) = constants 1 None
-  short (false_ p) = constants 0 None
-  short (null p) = constants 0 None
-  short (var x) = variables sc x.kind x.number
-  short (field p e g) = places _ (nodes e + 1) (λ r. let h = (short e).place r in omega (arith, h))
-  short (arrow p e g) = places _ (nodes e + 1) (λ r. targets (made sc e) (nodes e) (short e) r)
-  short (index p e i) = places _ (nodes e + nodes i + 1) (λ r. elements (made sc i).literal (element_words sc.env.structs (type_at sc.env e)) (length_in (type_at sc.env e)) ((made sc e).place r) (made sc i) (nodes e) (nodes i) r ((short e).place r) (short i))
-  short (deref p e) = places _ (nodes e + 1) (λ r. targets (made sc e) (nodes e) (short e) r)
-  short (address p e) = values _ (nodes e + 1) (omega arith) (λ d r. let h = (short e).place r in let a = access_length (λ b k. Addiu d b k) r ((made sc e).place r) in omega (arith, h, a))
-  short (unary p o e) = unaries o (made sc e) (nodes e) (short e)
-  short (binary p o a b) = binaries o (made sc a) (made sc b) (nodes a) (nodes b) (short a) (short b)
+  pub short : (fs : Facts) (e : CExpr) → Short (made sc fs e) (nodes e)
+  short fs (num p n) = constants n (Some n)
+  short fs (true_ p) = constants 1 None
+  short fs (false_ p) = constants 0 None
+  short fs (null p) = constants 0 None
+  short fs (var x) = variables sc fs x.kind x.number
+  short fs (field p e g) = places _ (nodes e + 1) (λ r. let h = (short fs e).place r in omega (arith, h))
+  short fs (arrow p e g) = places _ (nodes e + 1) (λ r. targets (is_sure_pointer fs (typed_of_expr sc.env e)) (made sc fs e) (nodes e) (short fs e) r)
+  short fs (index p e i) = places _ (nodes e + nodes i + 1) (λ r. elements (made sc fs i).literal (element_words sc.env.structs (type_at sc.env e)) (length_in (type_at sc.env e)) ((made sc fs e).place r) (made sc fs i) (nodes e) (nodes i) r ((short fs e).place r) (short fs i))
+  short fs (deref p e) = places _ (nodes e + 1) (λ r. targets (is_sure_pointer fs (typed_of_expr sc.env e)) (made sc fs e) (nodes e) (short fs e) r)
+  short fs (address p e) = values _ (nodes e + 1) (omega arith) (λ d r. let h = (short fs e).place r in let a = access_length (λ b k. Addiu d b k) r ((made sc fs e).place r) in omega (arith, h, a))
+  short fs (unary p o e) = unaries o (made sc fs e) (nodes e) (short fs e)
+  short fs (binary p o a b) = binaries o (made sc fs a) (made sc (right_facts o (typed_of_expr sc.env a) fs) b) (nodes a) (nodes b) (short fs a) (short (right_facts o (typed_of_expr sc.env a) fs) b)
 
   -- an expression's code is at most 14 words for each of its nodes
-  pub value_length : (e : CExpr) (d r : ℕ) → length ((made sc e).value d r) ≤ 14 * nodes e
-  value_length e d r = (short e).value d r
+  pub value_length : (fs : Facts) (e : CExpr) (d r : ℕ) → length ((made sc fs e).value d r) ≤ 14 * nodes e
+  value_length fs e d r = (short fs e).value d r

@@ -13,7 +13,9 @@ use Rattle.c0_meaning.specs.Evaluation.{Costed, costs, at_no_cost, paying, ◌>>
 use Rattle.c0_expr_code.proofs.CodeRuns.{Machine, joined, later, goes}
 use Rattle.c0_expr_code.specs.Scope.{Scope}
 use Rattle.c0_expr_code.specs.Bases.{Bases, RegionHeld, LocalsHeld}
-use Rattle.c0_expr_code.specs.Relation.{Ready, KeepsRegisters, Evaluates, Source, nought, its, far}
+use Rattle.c0_expr_code.specs.declared.facts.Facts.{Facts}
+use Rattle.c0_expr_code.specs.Facts.{IsFreeRegister}
+use Rattle.c0_expr_code.specs.Relation.{Ready, RegistersHold, FactsHold, ReadyWith, KeepsRegisters, Evaluates, Source, nought, its, answer, far}
 use Rattle.c0_meaning.specs.Sizes.{words_before}
 use Rattle.c0_meaning.specs.TypedState.{types_of}
 
@@ -72,15 +74,42 @@ ready_on sc p live s a b h g = record {
     }
     by_form false v = subst (λ m. LocalsHeld sc p live m (p.frame_end - sc.frame + 3) (types_of sc.env.locals) (variables_of s.frames)) (sym h.memory) v
 
+-- what is known holds on where registers are kept, and none goes that has a variable's word
+pub facts_on : (sc : Scope) (p : Bases) (fs : Facts) (s : C0State) (a b : Contents) (r d : ℕ) → 8 ≤ r → KeepsRegisters r d a b
+    → (sc.in_registers ≡ false → IsFreeRegister fs d) → FactsHold sc p fs s a → FactsHold sc p fs s b
+facts_on sc p fs s a b r d le h free g = record { registers = λ frame. kept (free frame) (g.registers frame); sure = g.sure }
+  where
+    word : (x : ℕ) → b.memory x ≡ a.memory x
+    word x = ap (λ (m : ℕ → ℕ). m x) h.memory
+
+    kept : IsFreeRegister fs d → RegistersHold sc p fs a → RegistersHold sc p fs b
+    kept free g = record {
+      params = λ n holds t there scalar. h.above (20 + n) (λ e. free.params n holds (sym e)) (omega arith) ∙ g.params n holds t there scalar ∙ sym (word _);
+      answer = λ n holds t there scalar. h.below 2 (λ e. absurd (omega (arith, e))) (λ e. free.answer n holds (sym e)) (omega (arith, le)) ∙ g.answer n holds t there scalar ∙ sym (word _);
+    }
+
+-- so it does where a register of expressions is written
+pub free_low : (fs : Facts) (r : ℕ) → 8 ≤ r → r < 20 → IsFreeRegister fs r
+free_low fs r le lt = record { params = λ n holds e. absurd (omega (arith, e, lt)); answer = λ n holds e. absurd (omega (arith, e, le)) }
+
+pub with_on : (sc : Scope) (p : Bases) (live : ℕ → Bool) (fs : Facts) (s : C0State) (a b : Contents) (r : ℕ) → 8 ≤ r → r < 20 → KeepsRegisters r r a b
+    → ReadyWith sc p live fs s a → ReadyWith sc p live fs s b
+with_on sc p live fs s a b r le lt h g = record {
+  ready = ready_on sc p live s a b (keeps_low r r a b lt h) g.ready;
+  facts = facts_on sc p fs s a b r r le h (λ frame. free_low fs r le lt) g.facts;
+}
+
 -- sources
 pub source_other : (r q : ℕ) → 8 ≤ r → Source r q → q ≢ 1
 source_other r _ le nought = λ e. absurd (omega (arith, e))
 source_other r _ le its = λ e. absurd (omega (arith, e))
+source_other r _ le answer = λ e. absurd (omega (arith, e))
 source_other r _ le (far h) = λ e. absurd (omega (arith, e, h))
 
 pub source_kept : (r q : ℕ) (a b : Contents) → 8 ≤ r → r < 19 → Source r q → KeepsRegisters (r + 1) (r + 1) a b → reg b.regs q ≡ reg a.regs q
 source_kept r _ a b le lt nought h = refl
 source_kept r _ a b le lt its h = like_read b.regs a.regs r (h.below r (λ e. absurd (omega (arith, e))) (λ e. absurd (omega (arith, e))) (omega arith))
+source_kept r _ a b le lt answer h = like_read b.regs a.regs 2 (h.below 2 (λ e. absurd (omega (arith, e))) (λ e. absurd (omega (arith, e, le))) (omega (arith, le)))
 source_kept r q a b le lt (far g) h = like_read b.regs a.regs q (h.above q (λ e. absurd (omega (arith, e, g))) g)
 
 module _ (w : World) (sc : Scope) where

@@ -6,8 +6,10 @@ use Rattle.c0_tree.specs.declared.tree.BinaryOp.{BinaryOp}
 use Rattle.c0_tree.specs.declared.tree.BinaryOp.TheVariants.{Add, Sub, Mul, Div, Rem, Lt, Le, Gt, Ge, Eq, Ne, And, Or}
 use Rattle.c0_tree.specs.Tree.{CExpr, field, arrow, index, deref, address, unary, binary}
 use Rattle.c0_tree.specs.Size.{nodes}
+use Rattle.c0_typed.specs.Typed.{typed_of_expr}
+use Rattle.c0_expr_code.specs.declared.facts.Facts.{Facts}
 use Rattle.c0_expr_code.specs.Scope.{Scope}
-use Rattle.c0_expr_code.specs.Code.{is_near, Made, operand_code, operand_register, two_code, made}
+use Rattle.c0_expr_code.specs.Code.{is_near, Made, operand_code, operand_register, two_code, made, right_facts}
 use Rattle.c0_expr_code.specs.Test.{branch_code, compare_code, ImmediateTest, immediate_test, immediate_test_of, Testing, compare_test, both_code, binary_test, plain_test, test_code}
 use Rattle.c0_expr_code.proofs.ShortExpressions.{Short, operand_length, short}
 
@@ -116,11 +118,11 @@ module _ (sc : Scope) where
   nodes_some (binary p o a b) = omega arith
   nodes_some _ = omega arith
 
-  leaf_length : (e : CExpr) (b : Bool) (far r : ℕ) → length (plain_test (made sc e) b far r) ≤ 15 * nodes e
-  leaf_length e b far r = let a = plain_length (made sc e) (nodes e) (short sc e) b far r in let n = nodes_some e in omega (arith, a, n)
+  leaf_length : (fs : Facts) (e : CExpr) (b : Bool) (far r : ℕ) → length (plain_test (made sc fs e) b far r) ≤ 15 * nodes e
+  leaf_length fs e b far r = let a = plain_length (made sc fs e) (nodes e) (short sc fs e) b far r in let n = nodes_some e in omega (arith, a, n)
 
-  pub test_length : (e : CExpr) (b : Bool) (far r : ℕ) → length (test_code sc e b far r) ≤ 15 * nodes e
-  test_length (unary span Not e) b far r = let a = test_length e (not b) far r in omega (arith, a)
-  test_length (unary span Negate e) b far r = leaf_length (unary span Negate e) b far r
-  test_length (binary span o a c) b far r = binary_length o (made sc (binary span o a c)) (made sc a) (made sc c) (test_code sc a) (test_code sc c) (nodes a) (nodes c) (short sc (binary span o a c)) (short sc a) (short sc c) (λ b far r. test_length a b far r) (λ b far r. test_length c b far r) b far r
-  test_length e b far r = leaf_length e b far r
+  pub test_length : (fs : Facts) (e : CExpr) (b : Bool) (far r : ℕ) → length (test_code sc fs e b far r) ≤ 15 * nodes e
+  test_length fs (unary span Not e) b far r = let a = test_length fs e (not b) far r in omega (arith, a)
+  test_length fs (unary span Negate e) b far r = leaf_length fs (unary span Negate e) b far r
+  test_length fs (binary span o a c) b far r = binary_length o (made sc fs (binary span o a c)) (made sc fs a) (made sc (right_facts o (typed_of_expr sc.env a) fs) c) (test_code sc fs a) (test_code sc (right_facts o (typed_of_expr sc.env a) fs) c) (nodes a) (nodes c) (short sc fs (binary span o a c)) (short sc fs a) (short sc (right_facts o (typed_of_expr sc.env a) fs) c) (λ b far r. test_length fs a b far r) (λ b far r. test_length (right_facts o (typed_of_expr sc.env a) fs) c b far r) b far r
+  test_length fs e b far r = leaf_length fs e b far r

@@ -16,7 +16,7 @@ use Rattle.c0_expr_code.proofs.CodeRuns.{Machine, joined, later, goes}
 use Rattle.c0_expr_code.specs.Scope.{Scope}
 use Rattle.c0_expr_code.specs.Relation.{KeepsRegisters, Evaluates, Splits, ends, Aims}
 use Rattle.c0_expr_code.specs.Test.{branch_code, negative_branch, positive_branch}
-use Rattle.c0_expr_code.proofs.SideBySide.{keeps_on}
+use Rattle.c0_expr_code.proofs.SideBySide.{keeps_on, Answered}
 
 module _ (w : World) (sc : Scope) where
   pub split_more : {A : Type 0} (m n from : ℕ) (to : A → ℕ) (c : Contents) (k : Behind) (Q : A → Contents → Type 0) (e : Costed A) → m ≤ n
@@ -44,6 +44,13 @@ module _ (w : World) (sc : Scope) where
       split_paid u (m + n) from to c k R (f x) (split_more (m + 16 * u + n) (m + n + 16 * u) from to c k R (f x) (omega arith) (split_after (m + 16 * u) n from (mid x) to c h.0 k R (f x) (i x h.0 h.1) h.2 (g x h.0 h.1)))
   split_binds m n from mid to c k Q R (costs u (Err (faulted x))) f h i g = (h.0, h.1, later w (m + 16 * u) (m + n + 16 * u) _ _ (omega arith) h.2)
   split_binds m n from mid to c k Q R (costs u (Err stuck)) f h i g = absurd h
+
+  -- an answer, of which it is known that it is that
+  pub split_answered : {A : Type 0} (m from : ℕ) (to : A → ℕ) (c : Contents) (k : Behind) (Q : A → Contents → Type 0) (e : Costed A) → Splits w sc m from to c k Q e
+      → Splits w sc m from to c k (Answered w sc Q e) e
+  split_answered m from to c k Q (costs u (Ok x)) h = (h.0, record { holds = h.1; units = u; is = refl }, h.2)
+  split_answered m from to c k Q (costs u (Err (faulted f))) h = h
+  split_answered m from to c k Q (costs u (Err stuck)) h = absurd h
 
   -- one end
   pub as_split : {A : Type 0} (m from to : ℕ) (c : Contents) (k : Behind) (Q : A → Contents → Type 0) (e : Costed A) → Evaluates w sc m from to c k Q e

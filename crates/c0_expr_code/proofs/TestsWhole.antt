@@ -26,22 +26,26 @@ use Rattle.c0_meaning.specs.Evaluation.{Costed, costs, at_no_cost, paying, ◌>>
 use Rattle.c0_meaning.specs.TypedState.{Fits}
 use Rattle.masm.specs.Says.{Gives as Becomes}
 use Rattle.cvm_words.specs.Words.{word_of}
+use Rattle.c0_tree.specs.declared.tree.Span.{Span}
+use Rattle.c0_typed.specs.Typed.{typed_of_expr}
+use Rattle.c0_expr_code.specs.declared.facts.Facts.{Facts}
 use Rattle.c0_expr_code.specs.Scope.{Scope}
-use Rattle.c0_expr_code.specs.Code.{low, is_near, Made, operand_code, operand_register, one_code, two_code, made}
+use Rattle.c0_expr_code.specs.Code.{low, is_near, Made, operand_code, operand_register, one_code, two_code, made, right_facts}
 use Rattle.c0_expr_code.specs.Test.{branch_code, negative_branch, positive_branch, compare_code, ImmediateTest, below_code, immediate_test, immediate_test_of, Testing, compare_test, both_code, binary_test, plain_test, test_code}
 use Rattle.c0_expr_code.specs.Bases.{Bases, word_of_scalar}
-use Rattle.c0_expr_code.specs.Relation.{layout, StateIsTyped, Ready, KeepsRegisters, Area, HoldsValue, OperandRuns, Right, Splits, ends, Aims, TestRuns}
+use Rattle.c0_expr_code.specs.Relation.{layout, StateIsTyped, ReadyWith, KeepsRegisters, Area, HoldsValue, OperandRuns, Right, Splits, ends, Aims, TestRuns}
 use Rattle.c0_expr_code.proofs.CodeRuns.{Machine, joined, later, stays, code_front, code_back, said_step}
 use Rattle.c0_expr_code.proofs.WordsOfValues.{word_less, not_less}
-use Rattle.c0_expr_code.proofs.SideBySide.{keeps_all, keeps_on, keeps_in, keeps_one, keeps_low, ready_on, source_kept}
+use Rattle.c0_expr_code.proofs.SideBySide.{keeps_all, keeps_on, keeps_in, keeps_one, keeps_low, with_on, Answered, source_kept}
 use Rattle.c0_expr_code.proofs.OperatorsOnRegisters.{same_words}
 use Rattle.c0_expr_code.proofs.ConstantOperands.{near_some, less_near}
 use Rattle.c0_expr_code.proofs.NodeTypes.{KnownAs, known_is}
 use Rattle.c0_expr_code.proofs.FramePlaces.{or_left, or_right}
 use Rattle.c0_expr_code.specs.Reads.{reads, Covers}
-use Rattle.c0_expr_code.proofs.EveryExpression.{need_some, right, null_right_is}
+use Rattle.c0_expr_code.proofs.EveryExpression.{need_some, right, null_right_is, goes_on, behind_left}
+use Rattle.c0_expr_code.proofs.BothSidesKnow.{order_knows, equality_knows}
 use Rattle.c0_expr_code.proofs.TestLengths.{both_length, test_length}
-use Rattle.c0_expr_code.proofs.TestsGoByAnswers.{split_more, split_paid, split_binds, as_split, split_says, split_at, split_arrives, truth_paying, truth_binds, branches, negative_branches, positive_branches}
+use Rattle.c0_expr_code.proofs.TestsGoByAnswers.{split_more, split_paid, split_binds, split_answered, as_split, split_says, split_at, split_arrives, truth_paying, truth_binds, branches, negative_branches, positive_branches}
 
 -- the place by the answer, where the answer is turned
 turned : (b : Bool) (to end : ℕ) (x : Bool) → ends (not b) to end (not x) ≡ ends b to end x
@@ -64,15 +68,15 @@ aims_in n m e far to before h = record { same = h.same; short = h.short; ahead =
 aims_at : (n e e' far to : ℕ) → e ≡ e' → Aims n e far to → Aims n e' far to
 aims_at n e e' far to q h = subst (λ x. Aims n x far to) q h
 
-module _ (w : World) (sc : Scope) (p : Bases) (live : ℕ → Bool) (s : C0State) (f : Machine w) (area : Area w sc p) (is_typed : StateIsTyped sc p s) where
+module _ (w : World) (sc : Scope) (p : Bases) (live : ℕ → Bool) (fs : Facts) (s : C0State) (f : Machine w) (area : Area w sc p) (is_typed : StateIsTyped sc p s) where
   -- a node pays for its test
   pays : (m n : ℕ) (to : Bool → ℕ) (c : Contents) (k : Behind) (Q : Bool → Contents → Type 0) (e : Costed Value) → m ≤ 16
       → Splits w sc m n to c k Q (truth e) → Splits w sc 0 n to c k Q (truth (paying 1 e))
   pays m n to c k Q e few h = subst (λ x. Splits w sc 0 n to c k Q x) (sym (truth_paying 1 e)) (split_paid w sc 1 0 n to c k Q (truth e) (split_more w sc m (0 + 16 * 1) n to c k Q (truth e) (omega arith) h))
 
   -- a test of a bool that is in a register
-  plain : (m : Made) (need : ℕ) (x : Costed Value) → OperandRuns w sc p live s m need ty.bool x → (b : Bool) (far to r n : ℕ) (c : Contents) (k : Behind)
-      → k.pending ≡ Idle → Ready sc p live s c → CodeAt w n (plain_test m b far r) → 8 ≤ r → r < 20 → r + need ≤ 20
+  plain : (m : Made) (need : ℕ) (x : Costed Value) → OperandRuns w sc p live fs s m need ty.bool x → (b : Bool) (far to r n : ℕ) (c : Contents) (k : Behind)
+      → k.pending ≡ Idle → ReadyWith sc p live fs s c → CodeAt w n (plain_test m b far r) → 8 ≤ r → r < 20 → r + need ≤ 20
       → Aims n (n + length (plain_test m b far r)) far to →
       Splits w sc 1 n (ends b to (n + length (plain_test m b far r))) c k (λ y c'. KeepsRegisters r r c c') (truth x)
   plain m need x o b far to r n c k idle ready code lo hi room aims =
@@ -103,8 +107,8 @@ module _ (w : World) (sc : Scope) (p : Bases) (live : ℕ → Bool) (s : C0State
       → CodeAt w n (compare_code o b far q g) → Aims n' (n + length (compare_code o b far q g)) far to →
       Splits w sc 2 n (ends b to (n + length (compare_code o b far q g))) a k (λ z c'. KeepsRegisters r r a c') (truth (at_no_cost (on_binary o x y)))
 
-  compared : (o : BinaryOp) (ma mb : Made) (na nb : ℕ) (t u : Ty) (x y : Costed Value) → Compares o t u → OperandRuns w sc p live s ma na t x
-      → OperandRuns w sc p live s mb nb u y → (b : Bool) (far to r n : ℕ) (c : Contents) (k : Behind) → k.pending ≡ Idle → Ready sc p live s c
+  compared : (o : BinaryOp) (ma mb : Made) (na nb : ℕ) (t u : Ty) (x y : Costed Value) → Compares o t u → OperandRuns w sc p live fs s ma na t x
+      → OperandRuns w sc p live fs s mb nb u y → (b : Bool) (far to r n : ℕ) (c : Contents) (k : Behind) → k.pending ≡ Idle → ReadyWith sc p live fs s c
       → CodeAt w n (two_code (λ q t. compare_code o b far q t) ma mb r) → 8 ≤ r → r + na ≤ 20 → r + (nb + 1) ≤ 20 → 1 ≤ nb
       → Aims n (n + length (two_code (λ q t. compare_code o b far q t) ma mb r)) far to →
       Splits w sc 2 n (ends b to (n + length (two_code (λ q t. compare_code o b far q t) ma mb r))) c k (λ z c'. KeepsRegisters r r c c') (truth (x >>= λ v. y >>= λ w. at_no_cost (on_binary o v w)))
@@ -118,7 +122,7 @@ module _ (w : World) (sc : Scope) (p : Bases) (live : ℕ → Bool) (s : C0State
       (split_binds w sc 0 2 n (λ z. n + length (operand_code ma r)) (ends b to (n + length (two_code (λ q t. compare_code o b far q t) ma mb r))) c k (HoldsValue sc p (operand_register ma r) r r t c) (λ z c'. KeepsRegisters r r c c') x _ (as_split w sc 0 n (n + length (operand_code ma r)) c k (HoldsValue sc p (operand_register ma r) r r t c) x a.1)
       (λ v e g. keeps_low r r c e (omega arith) g.keeps)
       (λ v e g.
-      let ready_e = ready_on sc p live s c e (keeps_low r r c e (omega arith) g.keeps) ready in
+      let ready_e = with_on sc p live fs s c e r lo (omega arith) g.keeps ready in
       let o2 = ob (r + 1) (n + length (operand_code ma r)) e k idle ready_e (code_front w _ (operand_code mb (r + 1)) (compare_code o b far (operand_register ma r) (operand_register mb (r + 1))) rest) (omega arith) (omega arith) in
       subst (λ z. Splits w sc 2 (n + length (operand_code ma r)) (ends b to (n + length (two_code (λ q t. compare_code o b far q t) ma mb r))) e k (λ z c'. KeepsRegisters r r c c') z) (sym (truth_binds y (λ w. at_no_cost (on_binary o v w))))
       (split_binds w sc 0 2 (n + length (operand_code ma r)) (λ z. n + length (operand_code ma r) + length (operand_code mb (r + 1))) (ends b to (n + length (two_code (λ q t. compare_code o b far q t) ma mb r))) e k (HoldsValue sc p (operand_register mb (r + 1)) (r + 1) (r + 1) u e) (λ z c'. KeepsRegisters r r c c') y _ (as_split w sc 0 _ _ e k (HoldsValue sc p (operand_register mb (r + 1)) (r + 1) (r + 1) u e) y o2.1)
@@ -275,8 +279,8 @@ module _ (w : World) (sc : Scope) (p : Bases) (live : ℕ → Bool) (s : C0State
 
   -- a value in a register, and then such code
   compared_with : (g : Bool → ℕ → ℕ → List Inst) (by : ℤ → Bool) (on : Value → Result Value Failure) (ma : Made) (na : ℕ) (x : Costed Value)
-      → ((z : ℤ) → on (int z) ≡ Ok (bool (by z))) → GoesBy g by → OperandRuns w sc p live s ma na ty.int x
-      → (b : Bool) (far to r n : ℕ) (c : Contents) (k : Behind) → k.pending ≡ Idle → Ready sc p live s c → CodeAt w n (one_code (λ q. g b far q) ma r)
+      → ((z : ℤ) → on (int z) ≡ Ok (bool (by z))) → GoesBy g by → OperandRuns w sc p live fs s ma na ty.int x
+      → (b : Bool) (far to r n : ℕ) (c : Contents) (k : Behind) → k.pending ≡ Idle → ReadyWith sc p live fs s c → CodeAt w n (one_code (λ q. g b far q) ma r)
       → 8 ≤ r → r < 20 → r + na ≤ 20 → Aims n (n + length (one_code (λ q. g b far q) ma r)) far to →
       Splits w sc 2 n (ends b to (n + length (one_code (λ q. g b far q) ma r))) c k (λ y c'. KeepsRegisters r r c c') (truth (x >>= λ v. at_no_cost (on v)))
   compared_with g by on ma na x says own o b far to r n c k idle ready code lo hi room aims =
@@ -320,22 +324,23 @@ module _ (w : World) (sc : Scope) (p : Bases) (live : ℕ → Bool) (s : C0State
   known_right own u n to c k Q (costs m (Err a)) y v on e h = h
 
   -- two tests
-  abbrev TestsAs : Testing → ℕ → Costed Bool → Type 0
-  TestsAs code need e = (b : Bool) (far to r n : ℕ) (c : Contents) (k : Behind) → k.pending ≡ Idle → Ready sc p live s c → CodeAt w n (code b far r)
+  abbrev TestsAs : Facts → Testing → ℕ → Costed Bool → Type 0
+  TestsAs g code need e = (b : Bool) (far to r n : ℕ) (c : Contents) (k : Behind) → k.pending ≡ Idle → ReadyWith sc p live g s c → CodeAt w n (code b far r)
       → 8 ≤ r → r + need ≤ 20 → Aims n (n + length (code b far r)) far to
       → Splits w sc 1 n (ends b to (n + length (code b far r))) c k (λ y c'. KeepsRegisters r r c c') e
 
   -- the first decides for the whole test's place: the first goes there, or on to the second
-  straight_two : (decides : Bool) (one two : Testing) (na nb : ℕ) (x y : Costed Bool) (rest : Bool → Costed Bool) → TestsAs one na x
-      → TestsAs two nb y → rest decides ≡ at_no_cost (Ok decides) → rest (not decides) ≡ y →
-      (far to r n : ℕ) (c : Contents) (k : Behind) → k.pending ≡ Idle → Ready sc p live s c → 8 ≤ r → r < 20 → r + na ≤ 20 → r + nb ≤ 20 →
+  straight_two : (behind : Facts) (decides : Bool) (one two : Testing) (na nb : ℕ) (x y : Costed Bool) (rest : Bool → Costed Bool) → TestsAs fs one na x
+      → TestsAs behind two nb y → rest decides ≡ at_no_cost (Ok decides) → rest (not decides) ≡ y
+      → ((u : ℕ) (b : Contents) → x ≡ costs u (Ok (not decides)) → ReadyWith sc p live fs s b → ReadyWith sc p live behind s b) →
+      (far to r n : ℕ) (c : Contents) (k : Behind) → k.pending ≡ Idle → ReadyWith sc p live fs s c → 8 ≤ r → r < 20 → r + na ≤ 20 → r + nb ≤ 20 →
       CodeAt w n (one decides ((far + length (two decides far r)) % 2 ^ 16) r ++ two decides far r) → Aims n (n + length (one decides ((far + length (two decides far r)) % 2 ^ 16) r ++ two decides far r)) far to →
       Splits w sc 2 n (ends decides to (n + length (one decides ((far + length (two decides far r)) % 2 ^ 16) r ++ two decides far r))) c k (λ z c'. KeepsRegisters r r c c') (x >>= rest)
-  straight_two decides one two na nb x y rest t1 t2 stop go far to r n c k idle ready lo hi ha hb code aims =
-      split_binds w sc 1 1 n (ends decides to n1) (ends decides to end) c k (λ z c'. KeepsRegisters r r c c') (λ z c'. KeepsRegisters r r c c') x rest
-      (t1 decides far1 to r n c k idle ready (code_front w n is js code) lo ha first_aims)
-      (λ z b g. keeps_low r r c b hi g)
-      (λ z b g. by_answer z b g (answers z decides))
+  straight_two behind decides one two na nb x y rest t1 t2 stop go told far to r n c k idle ready lo hi ha hb code aims =
+      split_binds w sc 1 1 n (ends decides to n1) (ends decides to end) c k (Answered w sc (λ z c'. KeepsRegisters r r c c') x) (λ z c'. KeepsRegisters r r c c') x rest
+      (split_answered w sc 1 n _ c k (λ z c'. KeepsRegisters r r c c') x (t1 decides far1 to r n c k idle ready (code_front w n is js code) lo ha first_aims))
+      (λ z b g. keeps_low r r c b hi g.holds)
+      (λ z b g. by_answer z b g.units g.is g.holds (answers z decides))
     where
       far1 : ℕ
       far1 = (far + length (two decides far r)) % 2 ^ 16
@@ -374,32 +379,33 @@ module _ (w : World) (sc : Scope) (p : Bases) (live : ℕ → Bool) (s : C0State
       at_end true to e = refl
       at_end false to e = refl
 
-      by_answer : (z : Bool) (b : Contents) → KeepsRegisters r r c b → (z ≡ decides) ⊎ (z ≡ not decides)
+      by_answer : (z : Bool) (b : Contents) (u : ℕ) → x ≡ costs u (Ok z) → KeepsRegisters r r c b → (z ≡ decides) ⊎ (z ≡ not decides)
           → Splits w sc 1 (ends decides to n1 z) (ends decides to end) b k (λ z c'. KeepsRegisters r r c c') (rest z)
-      by_answer z b g (inl e) =
+      by_answer z b u q g (inl e) =
           subst (λ z. Splits w sc 1 (ends decides to n1 z) (ends decides to end) b k (λ z c'. KeepsRegisters r r c c') (rest z)) (sym e)
           (subst (λ o. Splits w sc 1 (ends decides to n1 decides) (ends decides to end) b k (λ z c'. KeepsRegisters r r c c') o) (sym stop)
           (split_arrives w sc 1 _ (ends decides to end) b b k (λ z c'. KeepsRegisters r r c c') decides g (later w 0 1 _ _ (omega arith) (stays w _ _ (ap (λ m. at_with m b k) (at_place decides to n1 ∙ sym (at_place decides to end)))))))
-      by_answer z b g (inr e) =
+      by_answer z b u q g (inr e) =
           subst (λ z. Splits w sc 1 (ends decides to n1 z) (ends decides to end) b k (λ z c'. KeepsRegisters r r c c') (rest z)) (sym e)
           (subst (λ o. Splits w sc 1 (ends decides to n1 (not decides)) (ends decides to end) b k (λ z c'. KeepsRegisters r r c c') o) (sym go)
           (subst (λ m. Splits w sc 1 m (ends decides to end) b k (λ z c'. KeepsRegisters r r c c') y) (sym (at_end decides to n1))
-          (split_at w sc 1 n1 (ends decides to (n1 + length js)) (ends decides to end) b k (λ z c'. KeepsRegisters r r c c') y (λ q. same_end decides to _ _ q len)
-          (split_says w sc 1 n1 _ b k (λ z c'. KeepsRegisters r r b c') (λ z c'. KeepsRegisters r r c c') y (λ q j h. keeps_on r r c b j g h)
-          (t2 decides far to r n1 b k idle (ready_on sc p live s c b (keeps_low r r c b hi g) ready) (code_back w n is js code) lo hb (aims_in n n1 (n1 + length js) far to (omega arith) (aims_at n end (n1 + length js) far to (sym len) aims)))))))
+          (split_at w sc 1 n1 (ends decides to (n1 + length js)) (ends decides to end) b k (λ z c'. KeepsRegisters r r c c') y (λ v. same_end decides to _ _ v len)
+          (split_says w sc 1 n1 _ b k (λ z c'. KeepsRegisters r r b c') (λ z c'. KeepsRegisters r r c c') y (λ v j h. keeps_on r r c b j g h)
+          (t2 decides far to r n1 b k idle (told u b (q ∙ ap (λ (v : Bool). costs u (Ok v)) e) (with_on sc p live fs s c b r lo hi g ready)) (code_back w n is js code) lo hb (aims_in n n1 (n1 + length js) far to (omega arith) (aims_at n end (n1 + length js) far to (sym len) aims)))))))
 
   -- the first decides against it: it goes over the second, or on to it
-  over_two : (decides : Bool) (one two : Testing) (na nb : ℕ) (x y : Costed Bool) (rest : Bool → Costed Bool) → TestsAs one na x → TestsAs two nb y
-      → rest decides ≡ at_no_cost (Ok decides) → rest (not decides) ≡ y →
-      (far to r n : ℕ) (c : Contents) (k : Behind) → k.pending ≡ Idle → Ready sc p live s c → 8 ≤ r → r < 20 → r + na ≤ 20 → r + nb ≤ 20
+  over_two : (behind : Facts) (decides : Bool) (one two : Testing) (na nb : ℕ) (x y : Costed Bool) (rest : Bool → Costed Bool) → TestsAs fs one na x → TestsAs behind two nb y
+      → rest decides ≡ at_no_cost (Ok decides) → rest (not decides) ≡ y
+      → ((u : ℕ) (b : Contents) → x ≡ costs u (Ok (not decides)) → ReadyWith sc p live fs s b → ReadyWith sc p live behind s b) →
+      (far to r n : ℕ) (c : Contents) (k : Behind) → k.pending ≡ Idle → ReadyWith sc p live fs s c → 8 ≤ r → r < 20 → r + na ≤ 20 → r + nb ≤ 20
       → length (one decides (length (two (not decides) far r) % 2 ^ 16) r ++ two (not decides) far r) ≤ 32768 →
       CodeAt w n (one decides (length (two (not decides) far r) % 2 ^ 16) r ++ two (not decides) far r) → Aims n (n + length (one decides (length (two (not decides) far r) % 2 ^ 16) r ++ two (not decides) far r)) far to →
       Splits w sc 2 n (ends (not decides) to (n + length (one decides (length (two (not decides) far r) % 2 ^ 16) r ++ two (not decides) far r))) c k (λ z c'. KeepsRegisters r r c c') (x >>= rest)
-  over_two decides one two na nb x y rest t1 t2 stop go far to r n c k idle ready lo hi ha hb small code aims =
-      split_binds w sc 1 1 n (ends decides end n1) (ends (not decides) to end) c k (λ z c'. KeepsRegisters r r c c') (λ z c'. KeepsRegisters r r c c') x rest
-      (t1 decides far1 end r n c k idle ready (code_front w n is js code) lo ha first_aims)
-      (λ z b g. keeps_low r r c b hi g)
-      (λ z b g. by_answer z b g (answers z decides))
+  over_two behind decides one two na nb x y rest t1 t2 stop go told far to r n c k idle ready lo hi ha hb small code aims =
+      split_binds w sc 1 1 n (ends decides end n1) (ends (not decides) to end) c k (Answered w sc (λ z c'. KeepsRegisters r r c c') x) (λ z c'. KeepsRegisters r r c c') x rest
+      (split_answered w sc 1 n _ c k (λ z c'. KeepsRegisters r r c c') x (t1 decides far1 end r n c k idle ready (code_front w n is js code) lo ha first_aims))
+      (λ z b g. keeps_low r r c b hi g.holds)
+      (λ z b g. by_answer z b g.units g.is g.holds (answers z decides))
     where
       far1 : ℕ
       far1 = length (two (not decides) far r) % 2 ^ 16
@@ -436,19 +442,19 @@ module _ (w : World) (sc : Scope) (p : Bases) (live : ℕ → Bool) (s : C0State
       at_end true e m = refl
       at_end false e m = refl
 
-      by_answer : (z : Bool) (b : Contents) → KeepsRegisters r r c b → (z ≡ decides) ⊎ (z ≡ not decides)
+      by_answer : (z : Bool) (b : Contents) (u : ℕ) → x ≡ costs u (Ok z) → KeepsRegisters r r c b → (z ≡ decides) ⊎ (z ≡ not decides)
           → Splits w sc 1 (ends decides end n1 z) (ends (not decides) to end) b k (λ z c'. KeepsRegisters r r c c') (rest z)
-      by_answer z b g (inl e) =
+      by_answer z b u q g (inl e) =
           subst (λ z. Splits w sc 1 (ends decides end n1 z) (ends (not decides) to end) b k (λ z c'. KeepsRegisters r r c c') (rest z)) (sym e)
           (subst (λ o. Splits w sc 1 (ends decides end n1 decides) (ends (not decides) to end) b k (λ z c'. KeepsRegisters r r c c') o) (sym stop)
           (split_arrives w sc 1 _ (ends (not decides) to end) b b k (λ z c'. KeepsRegisters r r c c') decides g (later w 0 1 _ _ (omega arith) (stays w _ _ (ap (λ m. at_with m b k) (over decides end n1 to))))))
-      by_answer z b g (inr e) =
+      by_answer z b u q g (inr e) =
           subst (λ z. Splits w sc 1 (ends decides end n1 z) (ends (not decides) to end) b k (λ z c'. KeepsRegisters r r c c') (rest z)) (sym e)
           (subst (λ o. Splits w sc 1 (ends decides end n1 (not decides)) (ends (not decides) to end) b k (λ z c'. KeepsRegisters r r c c') o) (sym go)
           (subst (λ m. Splits w sc 1 m (ends (not decides) to end) b k (λ z c'. KeepsRegisters r r c c') y) (sym (at_end decides end n1))
-          (split_at w sc 1 n1 (ends (not decides) to (n1 + length js)) (ends (not decides) to end) b k (λ z c'. KeepsRegisters r r c c') y (λ q. same_end (not decides) to _ _ q len)
-          (split_says w sc 1 n1 _ b k (λ z c'. KeepsRegisters r r b c') (λ z c'. KeepsRegisters r r c c') y (λ q j h. keeps_on r r c b j g h)
-          (t2 (not decides) far to r n1 b k idle (ready_on sc p live s c b (keeps_low r r c b hi g) ready) (code_back w n is js code) lo hb (aims_in n n1 (n1 + length js) far to (omega arith) (aims_at n end (n1 + length js) far to (sym len) aims)))))))
+          (split_at w sc 1 n1 (ends (not decides) to (n1 + length js)) (ends (not decides) to end) b k (λ z c'. KeepsRegisters r r c c') y (λ v. same_end (not decides) to _ _ v len)
+          (split_says w sc 1 n1 _ b k (λ z c'. KeepsRegisters r r b c') (λ z c'. KeepsRegisters r r c c') y (λ v j h. keeps_on r r c b j g h)
+          (t2 (not decides) far to r n1 b k idle (told u b (q ∙ ap (λ (v : Bool). costs u (Ok v)) e) (with_on sc p live fs s c b r lo hi g ready)) (code_back w n is js code) lo hb (aims_in n n1 (n1 + length js) far to (omega arith) (aims_at n end (n1 + length js) far to (sym len) aims)))))))
 
   -- `!`
   negated : (m n : ℕ) (to : Bool → ℕ) (c : Contents) (k : Behind) (Q : Contents → Type 0) (x : Costed Value)
@@ -464,19 +470,19 @@ module _ (w : World) (sc : Scope) (p : Bases) (live : ℕ → Bool) (s : C0State
   negated m n to c k Q (costs u (Err stuck)) h = absurd h
 
   leaf : (e : CExpr) (t : Ty) → HasNumberedType sc.env e t → t ≡ ty.bool → nodes e ≤ 2000 → Covers live (reads e)
-      → TestsAs (plain_test (made sc e)) (need e) (truth (value_of e s))
+      → TestsAs fs (plain_test (made sc fs e)) (need e) (truth (value_of e s))
   leaf e t h q few cover b far to r n c k idle ready code lo hi aims =
       let some = need_some e in
-      plain (made sc e) (need e) (value_of e s) ((subst (Right w sc p live s e) q (right w sc p live s f area is_typed e t h few cover)).operand refl) b far to r n c k idle ready code lo (omega arith) hi aims
+      plain (made sc fs e) (need e) (value_of e s) ((subst (Right w sc p live fs s e) q (right w sc p live s f area is_typed fs e t h few cover)).operand refl) b far to r n c k idle ready code lo (omega arith) hi aims
 
   -- a node's own steps are paid by its unit
   node_test : (code : Testing) (need : ℕ) (x : Costed Value)
-      → ((b : Bool) (far to r n : ℕ) (c : Contents) (k : Behind) → k.pending ≡ Idle → Ready sc p live s c → CodeAt w n (code b far r) → 8 ≤ r → r + need ≤ 20 → Aims n (n + length (code b far r)) far to → Splits w sc 2 n (ends b to (n + length (code b far r))) c k (λ y c'. KeepsRegisters r r c c') (truth x)) → TestsAs code need (truth (paying 1 x))
+      → ((b : Bool) (far to r n : ℕ) (c : Contents) (k : Behind) → k.pending ≡ Idle → ReadyWith sc p live fs s c → CodeAt w n (code b far r) → 8 ≤ r → r + need ≤ 20 → Aims n (n + length (code b far r)) far to → Splits w sc 2 n (ends b to (n + length (code b far r))) c k (λ y c'. KeepsRegisters r r c c') (truth x)) → TestsAs fs code need (truth (paying 1 x))
   node_test code need x h b far to r n c k idle ready there lo hi aims = split_more w sc 0 1 n (ends b to (n + length (code b far r))) c k (λ y c'. KeepsRegisters r r c c') (truth (paying 1 x)) (omega arith) (pays 2 n (ends b to (n + length (code b far r))) c k (λ y c'. KeepsRegisters r r c c') x (omega arith) (h b far to r n c k idle ready there lo hi aims))
 
   equal_tests : (o : BinaryOp) → IsEquality o → (t : Ty) → is_scalar t ≡ true → (m ma mb : Made) (ta tb : Testing) (na nb : ℕ) (x y : Costed Value)
-      → 1 ≤ nb → OperandRuns w sc p live s ma na t x → OperandRuns w sc p live s mb nb t y
-      → TestsAs (binary_test o m ma mb ta tb) (binary_need o na nb) (truth (paying 1 (both_sides o x y)))
+      → 1 ≤ nb → OperandRuns w sc p live fs s ma na t x → OperandRuns w sc p live fs s mb nb t y
+      → TestsAs fs (binary_test o m ma mb ta tb) (binary_need o na nb) (truth (paying 1 (both_sides o x y)))
   equal_tests _ eq t z m ma mb ta tb na nb x y some oa ob = node_test (binary_test Eq m ma mb ta tb) (max na (nb + 1)) _ (λ b far to r n c k idle ready code lo hi aims. compared Eq ma mb na nb t t x y (equal Eq eq t z) oa ob b far to r n c k idle ready code lo (omega arith) (omega arith) some aims)
   equal_tests _ ne t z m ma mb ta tb na nb x y some oa ob = node_test (binary_test Ne m ma mb ta tb) (max na (nb + 1)) _ (λ b far to r n c k idle ready code lo hi aims. compared Ne ma mb na nb t t x y (equal Ne ne t z) oa ob b far to r n c k idle ready code lo (omega arith) (omega arith) some aims)
 
@@ -508,9 +514,9 @@ module _ (w : World) (sc : Scope) (p : Bases) (live : ℕ → Bool) (s : C0State
       by_known (Some k) known e = let a = known k refl in by_value a.value a.units a.is a.fits k a.word_is e
 
   compare_tests : (im : ImmediateTest) (o : BinaryOp) (ma mb : Made) (na nb : ℕ) (x y : Costed Value) → 1 ≤ na → 1 ≤ nb → Compares o ty.int ty.int
-      → ((g : Bool → ℕ → ℕ → List Inst) → im ≡ Some g → KnowsTest g y (on_binary o)) → OperandRuns w sc p live s ma na ty.int x
-      → OperandRuns w sc p live s mb nb ty.int y
-      → TestsAs (compare_test im o ma mb) (max na (nb + 1)) (truth (paying 1 (x >>= λ v. y >>= λ u. at_no_cost (on_binary o v u))))
+      → ((g : Bool → ℕ → ℕ → List Inst) → im ≡ Some g → KnowsTest g y (on_binary o)) → OperandRuns w sc p live fs s ma na ty.int x
+      → OperandRuns w sc p live fs s mb nb ty.int y
+      → TestsAs fs (compare_test im o ma mb) (max na (nb + 1)) (truth (paying 1 (x >>= λ v. y >>= λ u. at_no_cost (on_binary o v u))))
   compare_tests (Some g) o ma mb na nb x y more_than some own knows oa ob = node_test (compare_test (Some g) o ma mb) (max na (nb + 1)) _ (λ b far to r n c k idle ready code lo hi aims.
       let v = knows g refl in
       known_right 2 v.units n _ c k (λ z c'. KeepsRegisters r r c c') x y (int v.value) (on_binary o) v.is
@@ -518,71 +524,88 @@ module _ (w : World) (sc : Scope) (p : Bases) (live : ℕ → Bool) (s : C0State
   compare_tests None o ma mb na nb x y more_than some own knows oa ob = node_test (compare_test None o ma mb) (max na (nb + 1)) _ (λ b far to r n c k idle ready code lo hi aims. compared o ma mb na nb ty.int ty.int x y own oa ob b far to r n c k idle ready code lo (omega arith) (omega arith) some aims)
 
   order_tests : (o : BinaryOp) → IsOrdering o → (m ma mb : Made) (ta tb : Testing) (na nb : ℕ) (x y : Costed Value) → 1 ≤ na → 1 ≤ nb
-      → ((k : ℕ) → mb.known ≡ Some k → KnownAs sc p ty.int k y) → OperandRuns w sc p live s ma na ty.int x → OperandRuns w sc p live s mb nb ty.int y
-      → TestsAs (binary_test o m ma mb ta tb) (binary_need o na nb) (truth (paying 1 (both_sides o x y)))
+      → ((k : ℕ) → mb.known ≡ Some k → KnownAs sc p ty.int k y) → OperandRuns w sc p live fs s ma na ty.int x → OperandRuns w sc p live fs s mb nb ty.int y
+      → TestsAs fs (binary_test o m ma mb ta tb) (binary_need o na nb) (truth (paying 1 (both_sides o x y)))
   order_tests _ lt m ma mb ta tb na nb x y more_than some known oa ob = compare_tests (immediate_test_of Lt mb.known) Lt ma mb na nb x y more_than some (ordered Lt lt) (knows_test Lt mb.known y (λ z x. int_lt x z) known (λ x z. refl) by_lt) oa ob
   order_tests _ le m ma mb ta tb na nb x y more_than some known oa ob = compare_tests (immediate_test_of Le mb.known) Le ma mb na nb x y more_than some (ordered Le le) (knows_test Le mb.known y (λ z x. int_le x z) known (λ x z. refl) by_le) oa ob
   order_tests _ gt m ma mb ta tb na nb x y more_than some known oa ob = compare_tests (immediate_test_of Gt mb.known) Gt ma mb na nb x y more_than some (ordered Gt gt) (knows_test Gt mb.known y (λ z x. int_lt z x) known (λ x z. refl) by_gt) oa ob
   order_tests _ ge m ma mb ta tb na nb x y more_than some known oa ob = compare_tests (immediate_test_of Ge mb.known) Ge ma mb na nb x y more_than some (ordered Ge ge) (knows_test Ge mb.known y (λ z x. int_le z x) known (λ x z. refl) by_ge) oa ob
 
-  logic_tests : (o : BinaryOp) → IsLogical o → (m ma mb : Made) (ta tb : Testing) (na nb j k : ℕ) (x y : Costed Value) → 1 ≤ na
+  logic_tests : (behind : Facts) (o : BinaryOp) → IsLogical o → (m ma mb : Made) (ta tb : Testing) (na nb j k : ℕ) (x y : Costed Value) → 1 ≤ na
       → ((b : Bool) (far r : ℕ) → length (ta b far r) ≤ 15 * j) → ((b : Bool) (far r : ℕ) → length (tb b far r) ≤ 15 * k) → j + k + 1 ≤ 2000
-      → TestsAs ta na (truth x) → TestsAs tb nb (truth y)
-      → TestsAs (binary_test o m ma mb ta tb) (binary_need o na nb) (truth (paying 1 (both_sides o x y)))
-  logic_tests _ and m ma mb ta tb na nb j k x y some la lb few t1 t2 = node_test (binary_test And m ma mb ta tb) (max na nb) _ by_side
+      → TestsAs fs ta na (truth x) → TestsAs behind tb nb (truth y)
+      → ((u : ℕ) (c : Contents) → truth x ≡ costs u (Ok (goes_on w sc p live fs s f area is_typed o)) → ReadyWith sc p live fs s c → ReadyWith sc p live behind s c)
+      → TestsAs fs (binary_test o m ma mb ta tb) (binary_need o na nb) (truth (paying 1 (both_sides o x y)))
+  logic_tests behind _ and m ma mb ta tb na nb j k x y some la lb few t1 t2 told = node_test (binary_test And m ma mb ta tb) (max na nb) _ by_side
     where
-      by_side : (b : Bool) (far to r n : ℕ) (c : Contents) (d : Behind) → d.pending ≡ Idle → Ready sc p live s c
+      by_side : (b : Bool) (far to r n : ℕ) (c : Contents) (d : Behind) → d.pending ≡ Idle → ReadyWith sc p live fs s c
           → CodeAt w n (both_code false b ta tb far r) → 8 ≤ r → r + max na nb ≤ 20 → Aims n (n + length (both_code false b ta tb far r)) far to
           → Splits w sc 2 n (ends b to (n + length (both_code false b ta tb far r))) c d (λ y c'. KeepsRegisters r r c c') (truth (truth x >>= λ b. if b then y else at_no_cost (Ok (bool false))))
       by_side true far to r n c d idle ready code lo hi aims =
           let size = both_length sc false true ta tb j k far r la lb in
           subst (λ e. Splits w sc 2 n (ends true to (n + length (both_code false true ta tb far r))) c d (λ y c'. KeepsRegisters r r c c') e) (sym (truth_binds (truth x) (λ b. if b then y else at_no_cost (Ok (bool false)))))
-          (over_two false ta tb na nb (truth x) (truth y) (λ b. truth (if b then y else at_no_cost (Ok (bool false)))) t1 t2 refl refl far to r n c d idle ready lo (omega arith) (omega arith) (omega arith) (omega (arith, size, few)) code aims)
+          (over_two behind false ta tb na nb (truth x) (truth y) (λ b. truth (if b then y else at_no_cost (Ok (bool false)))) t1 t2 refl refl told far to r n c d idle ready lo (omega arith) (omega arith) (omega arith) (omega (arith, size, few)) code aims)
       by_side false far to r n c d idle ready code lo hi aims =
           subst (λ e. Splits w sc 2 n (ends false to (n + length (both_code false false ta tb far r))) c d (λ y c'. KeepsRegisters r r c c') e) (sym (truth_binds (truth x) (λ b. if b then y else at_no_cost (Ok (bool false)))))
-          (straight_two false ta tb na nb (truth x) (truth y) (λ b. truth (if b then y else at_no_cost (Ok (bool false)))) t1 t2 refl refl far to r n c d idle ready lo (omega arith) (omega arith) (omega arith) code aims)
-  logic_tests _ or m ma mb ta tb na nb j k x y some la lb few t1 t2 = node_test (binary_test Or m ma mb ta tb) (max na nb) _ by_side
+          (straight_two behind false ta tb na nb (truth x) (truth y) (λ b. truth (if b then y else at_no_cost (Ok (bool false)))) t1 t2 refl refl told far to r n c d idle ready lo (omega arith) (omega arith) (omega arith) code aims)
+  logic_tests behind _ or m ma mb ta tb na nb j k x y some la lb few t1 t2 told = node_test (binary_test Or m ma mb ta tb) (max na nb) _ by_side
     where
-      by_side : (b : Bool) (far to r n : ℕ) (c : Contents) (d : Behind) → d.pending ≡ Idle → Ready sc p live s c
+      by_side : (b : Bool) (far to r n : ℕ) (c : Contents) (d : Behind) → d.pending ≡ Idle → ReadyWith sc p live fs s c
           → CodeAt w n (both_code true b ta tb far r) → 8 ≤ r → r + max na nb ≤ 20 → Aims n (n + length (both_code true b ta tb far r)) far to
           → Splits w sc 2 n (ends b to (n + length (both_code true b ta tb far r))) c d (λ y c'. KeepsRegisters r r c c') (truth (truth x >>= λ b. if b then at_no_cost (Ok (bool true)) else y))
       by_side false far to r n c d idle ready code lo hi aims =
           let size = both_length sc true false ta tb j k far r la lb in
           subst (λ e. Splits w sc 2 n (ends false to (n + length (both_code true false ta tb far r))) c d (λ y c'. KeepsRegisters r r c c') e) (sym (truth_binds (truth x) (λ b. if b then at_no_cost (Ok (bool true)) else y)))
-          (over_two true ta tb na nb (truth x) (truth y) (λ b. truth (if b then at_no_cost (Ok (bool true)) else y)) t1 t2 refl refl far to r n c d idle ready lo (omega arith) (omega arith) (omega arith) (omega (arith, size, few)) code aims)
+          (over_two behind true ta tb na nb (truth x) (truth y) (λ b. truth (if b then at_no_cost (Ok (bool true)) else y)) t1 t2 refl refl told far to r n c d idle ready lo (omega arith) (omega arith) (omega arith) (omega (arith, size, few)) code aims)
       by_side true far to r n c d idle ready code lo hi aims =
           subst (λ e. Splits w sc 2 n (ends true to (n + length (both_code true true ta tb far r))) c d (λ y c'. KeepsRegisters r r c c') e) (sym (truth_binds (truth x) (λ b. if b then at_no_cost (Ok (bool true)) else y)))
-          (straight_two true ta tb na nb (truth x) (truth y) (λ b. truth (if b then at_no_cost (Ok (bool true)) else y)) t1 t2 refl refl far to r n c d idle ready lo (omega arith) (omega arith) (omega arith) code aims)
+          (straight_two behind true ta tb na nb (truth x) (truth y) (λ b. truth (if b then at_no_cost (Ok (bool true)) else y)) t1 t2 refl refl told far to r n c d idle ready lo (omega arith) (omega arith) (omega arith) code aims)
 
   operand_of : (e : CExpr) (t : Ty) → is_scalar t ≡ true → HasNumberedType sc.env e t → nodes e ≤ 2000 → Covers live (reads e)
-      → OperandRuns w sc p live s (made sc e) (need e) t (value_of e s)
-  operand_of e t z h few cover = (right w sc p live s f area is_typed e t h few cover).operand z
+      → OperandRuns w sc p live fs s (made sc fs e) (need e) t (value_of e s)
+  operand_of e t z h few cover = (right w sc p live s f area is_typed fs e t h few cover).operand z
+
+module _ (w : World) (sc : Scope) (p : Bases) (live : ℕ → Bool) (s : C0State) (f : Machine w) (area : Area w sc p) (is_typed : StateIsTyped sc p s) where
+  -- a comparison evaluates both sides
+  both_evaluated : (fs : Facts) (span : Span) (o : BinaryOp) (a b : CExpr) → right_facts o (typed_of_expr sc.env a) fs ≡ fs
+      → TestsAs w sc p live fs s f area is_typed fs (binary_test o (made sc fs (binary span o a b)) (made sc fs a) (made sc fs b) (test_code sc fs a) (test_code sc fs b)) (binary_need o (need a) (need b)) (truth (paying 1 (both_sides o (value_of a s) (value_of b s))))
+      → TestRuns w sc p live fs s (binary span o a b)
+  both_evaluated fs span o a b e h =
+      subst (λ g. TestsAs w sc p live fs s f area is_typed fs (binary_test o (made sc fs (binary span o a b)) (made sc fs a) (made sc g b) (test_code sc fs a) (test_code sc g b)) (binary_need o (need a) (need b)) (truth (paying 1 (both_sides o (value_of a s) (value_of b s))))) (sym e) h
 
   -- THE THEOREM of tests
-  pub tests : (e : CExpr) (t : Ty) → HasNumberedType sc.env e t → t ≡ ty.bool → nodes e ≤ 2000 → Covers live (reads e) → TestRuns w sc p live s e
-  tests _ _ (a_negation {e = e} h) q few cover =
-      let inner = tests e ty.bool h refl (omega arith) cover in
-      node_test (λ b far r. test_code sc e (not b) far r) (need e) _ (λ b far to r n c k idle ready code lo hi aims.
+  pub tests : (fs : Facts) (e : CExpr) (t : Ty) → HasNumberedType sc.env e t → t ≡ ty.bool → nodes e ≤ 2000 → Covers live (reads e) → TestRuns w sc p live fs s e
+  tests fs _ _ (a_negation {e = e} h) q few cover =
+      let inner = tests fs e ty.bool h refl (omega arith) cover in
+      node_test w sc p live fs s f area is_typed (λ b far r. test_code sc fs e (not b) far r) (need e) _ (λ b far to r n c k idle ready code lo hi aims.
       let one = inner (not b) far to r n c k idle ready code lo hi aims in
       split_more w sc 1 2 n _ c k (λ y c'. KeepsRegisters r r c c') (truth (value_of e s >>= λ v. at_no_cost (on_unary Not v))) (omega arith)
-      (split_at w sc 1 n (λ z. ends (not b) to (n + length (test_code sc e (not b) far r)) (not z)) (ends b to (n + length (test_code sc e (not b) far r))) c k (λ y c'. KeepsRegisters r r c c') (truth (value_of e s >>= λ v. at_no_cost (on_unary Not v))) (turned b to (n + length (test_code sc e (not b) far r)))
-      (negated 1 n (ends (not b) to (n + length (test_code sc e (not b) far r))) c k (λ c'. KeepsRegisters r r c c') (value_of e s) one)))
-  tests _ _ (order {s = span} {o = o} {a = a} {b = b} k h g) q few cover = order_tests o k (made sc (binary span o a b)) (made sc a) (made sc b) (test_code sc a) (test_code sc b) (need a) (need b) (value_of a s) (value_of b s) (need_some a) (need_some b) (λ k e. known_is sc p b ty.int s k g e) (operand_of a ty.int refl h (omega arith) (λ m y. cover m (or_left (reads a m) (reads b m) y))) (operand_of b ty.int refl g (omega arith) (λ m y. cover m (or_right (reads a m) (reads b m) y)))
-  tests _ _ (logic {s = span} {o = o} {a = a} {b = b} k h g) q few cover = logic_tests o k (made sc (binary span o a b)) (made sc a) (made sc b) (test_code sc a) (test_code sc b) (need a) (need b) (nodes a) (nodes b) (value_of a s) (value_of b s) (need_some a) (λ y far r. test_length sc a y far r) (λ y far r. test_length sc b y far r) few (tests a ty.bool h refl (omega arith) (λ m y. cover m (or_left (reads a m) (reads b m) y))) (tests b ty.bool g refl (omega arith) (λ m y. cover m (or_right (reads a m) (reads b m) y)))
-  tests _ _ (equality {s = span} {o = o} {a = a} {b = b} {t = t} k z h g) q few cover = equal_tests o k t z (made sc (binary span o a b)) (made sc a) (made sc b) (test_code sc a) (test_code sc b) (need a) (need b) (value_of a s) (value_of b s) (need_some b) (operand_of a t z h (omega arith) (λ m y. cover m (or_left (reads a m) (reads b m) y))) (operand_of b t z g (omega arith) (λ m y. cover m (or_right (reads a m) (reads b m) y)))
-  tests _ _ (null_left {s = whole} {r = span} {o = o} {b = b} {t = t} k g) q few cover = equal_tests o k (ty.pointer t) refl (made sc (binary whole o (null span) b)) (made sc (null span)) (made sc b) (test_code sc (null span)) (test_code sc b) 1 (need b) (value_of (null span) s) (value_of b s) (need_some b) ((null_right_is w sc p live s f area is_typed span t).operand refl) (operand_of b (ty.pointer t) refl g (omega arith) (λ m y. cover m y))
-  tests _ _ (null_right {s = whole} {r = span} {o = o} {a = a} {t = t} k h) q few cover = equal_tests o k (ty.pointer t) refl (made sc (binary whole o a (null span))) (made sc a) (made sc (null span)) (test_code sc a) (test_code sc (null span)) (need a) 1 (value_of a s) (value_of (null span) s) (omega arith) (operand_of a (ty.pointer t) refl h (omega arith) (λ m y. cover m (or_left (reads a m) false y))) ((null_right_is w sc p live s f area is_typed span t).operand refl)
-  tests _ _ (a_variable {x = x} {d = d} h) q few cover = leaf (var x) d.ty (a_variable h) q few cover
-  tests _ _ (a_field {s = span} {e = e} {f = g} {d = d} pl h n) q few cover = leaf (field span e g) d.ty (a_field pl h n) q few cover
-  tests _ _ (a_target_field {s = span} {e = e} {f = g} {d = d} h n) q few cover = leaf (arrow span e g) d.ty (a_target_field h n) q few cover
-  tests _ t (an_element {s = span} {e = e} {i = i} pl h g) q few cover = leaf (index span e i) t (an_element pl h g) q few cover
-  tests _ t (a_target {s = span} {e = e} h) q few cover = leaf (deref span e) t (a_target h) q few cover
-  tests _ _ (a_true {s = span}) q few cover = leaf (true_ span) ty.bool a_true q few cover
-  tests _ _ (a_false {s = span}) q few cover = leaf (false_ span) ty.bool a_false q few cover
-  tests _ _ (a_number h) q few cover = absurd (cc)
-  tests _ _ (an_address pl away h) q few cover = absurd (cc)
-  tests _ _ (a_negative h) q few cover = absurd (cc)
-  tests _ _ (arithmetic k h g) q few cover = absurd (cc)
+      (split_at w sc 1 n (λ z. ends (not b) to (n + length (test_code sc fs e (not b) far r)) (not z)) (ends b to (n + length (test_code sc fs e (not b) far r))) c k (λ y c'. KeepsRegisters r r c c') (truth (value_of e s >>= λ v. at_no_cost (on_unary Not v))) (turned b to (n + length (test_code sc fs e (not b) far r)))
+      (negated w sc p live fs s f area is_typed 1 n (ends (not b) to (n + length (test_code sc fs e (not b) far r))) c k (λ c'. KeepsRegisters r r c c') (value_of e s) one)))
+  tests fs _ _ (order {s = span} {o = o} {a = a} {b = b} k h g) q few cover =
+      both_evaluated fs span o a b (order_knows o k (typed_of_expr sc.env a) fs)
+      (order_tests w sc p live fs s f area is_typed o k (made sc fs (binary span o a b)) (made sc fs a) (made sc fs b) (test_code sc fs a) (test_code sc fs b) (need a) (need b) (value_of a s) (value_of b s) (need_some a) (need_some b) (λ k e. known_is sc p fs b ty.int s k g e) (operand_of w sc p live fs s f area is_typed a ty.int refl h (omega arith) (λ m y. cover m (or_left (reads a m) (reads b m) y))) (operand_of w sc p live fs s f area is_typed b ty.int refl g (omega arith) (λ m y. cover m (or_right (reads a m) (reads b m) y))))
+  tests fs _ _ (logic {s = span} {o = o} {a = a} {b = b} k h g) q few cover = logic_tests w sc p live fs s f area is_typed (right_facts o (typed_of_expr sc.env a) fs) o k (made sc fs (binary span o a b)) (made sc fs a) (made sc (right_facts o (typed_of_expr sc.env a) fs) b) (test_code sc fs a) (test_code sc (right_facts o (typed_of_expr sc.env a) fs) b) (need a) (need b) (nodes a) (nodes b) (value_of a s) (value_of b s) (need_some a) (λ y far r. test_length sc fs a y far r) (λ y far r. test_length sc (right_facts o (typed_of_expr sc.env a) fs) b y far r) few (tests fs a ty.bool h refl (omega arith) (λ m y. cover m (or_left (reads a m) (reads b m) y))) (tests (right_facts o (typed_of_expr sc.env a) fs) b ty.bool g refl (omega arith) (λ m y. cover m (or_right (reads a m) (reads b m) y))) (behind_left w sc p live s f area is_typed fs o k a h)
+  tests fs _ _ (equality {s = span} {o = o} {a = a} {b = b} {t = t} k z h g) q few cover =
+      both_evaluated fs span o a b (equality_knows o k (typed_of_expr sc.env a) fs)
+      (equal_tests w sc p live fs s f area is_typed o k t z (made sc fs (binary span o a b)) (made sc fs a) (made sc fs b) (test_code sc fs a) (test_code sc fs b) (need a) (need b) (value_of a s) (value_of b s) (need_some b) (operand_of w sc p live fs s f area is_typed a t z h (omega arith) (λ m y. cover m (or_left (reads a m) (reads b m) y))) (operand_of w sc p live fs s f area is_typed b t z g (omega arith) (λ m y. cover m (or_right (reads a m) (reads b m) y))))
+  tests fs _ _ (null_left {s = whole} {r = span} {o = o} {b = b} {t = t} k g) q few cover =
+      both_evaluated fs whole o (null span) b (equality_knows o k (typed_of_expr sc.env (null span)) fs)
+      (equal_tests w sc p live fs s f area is_typed o k (ty.pointer t) refl (made sc fs (binary whole o (null span) b)) (made sc fs (null span)) (made sc fs b) (test_code sc fs (null span)) (test_code sc fs b) 1 (need b) (value_of (null span) s) (value_of b s) (need_some b) ((null_right_is w sc p live fs s f area is_typed span t).operand refl) (operand_of w sc p live fs s f area is_typed b (ty.pointer t) refl g (omega arith) (λ m y. cover m y)))
+  tests fs _ _ (null_right {s = whole} {r = span} {o = o} {a = a} {t = t} k h) q few cover =
+      both_evaluated fs whole o a (null span) (equality_knows o k (typed_of_expr sc.env a) fs)
+      (equal_tests w sc p live fs s f area is_typed o k (ty.pointer t) refl (made sc fs (binary whole o a (null span))) (made sc fs a) (made sc fs (null span)) (test_code sc fs a) (test_code sc fs (null span)) (need a) 1 (value_of a s) (value_of (null span) s) (omega arith) (operand_of w sc p live fs s f area is_typed a (ty.pointer t) refl h (omega arith) (λ m y. cover m (or_left (reads a m) false y))) ((null_right_is w sc p live fs s f area is_typed span t).operand refl))
+  tests fs _ _ (a_variable {x = x} {d = d} h) q few cover = leaf w sc p live fs s f area is_typed (var x) d.ty (a_variable h) q few cover
+  tests fs _ _ (a_field {s = span} {e = e} {f = g} {d = d} pl h n) q few cover = leaf w sc p live fs s f area is_typed (field span e g) d.ty (a_field pl h n) q few cover
+  tests fs _ _ (a_target_field {s = span} {e = e} {f = g} {d = d} h n) q few cover = leaf w sc p live fs s f area is_typed (arrow span e g) d.ty (a_target_field h n) q few cover
+  tests fs _ t (an_element {s = span} {e = e} {i = i} pl h g) q few cover = leaf w sc p live fs s f area is_typed (index span e i) t (an_element pl h g) q few cover
+  tests fs _ t (a_target {s = span} {e = e} h) q few cover = leaf w sc p live fs s f area is_typed (deref span e) t (a_target h) q few cover
+  tests fs _ _ (a_true {s = span}) q few cover = leaf w sc p live fs s f area is_typed (true_ span) ty.bool a_true q few cover
+  tests fs _ _ (a_false {s = span}) q few cover = leaf w sc p live fs s f area is_typed (false_ span) ty.bool a_false q few cover
+  tests fs _ _ (a_number h) q few cover = absurd (cc)
+  tests fs _ _ (an_address pl away h) q few cover = absurd (cc)
+  tests fs _ _ (a_negative h) q few cover = absurd (cc)
+  tests fs _ _ (arithmetic k h g) q few cover = absurd (cc)
 
-  pub given_tests : (e : CExpr) → IsNumberedGiven sc.env e ty.bool → nodes e ≤ 2000 → Covers live (reads e) → TestRuns w sc p live s e
-  given_tests _ (a_value {e = e} h) few cover = tests e ty.bool h refl few cover
+  pub given_tests : (fs : Facts) (e : CExpr) → IsNumberedGiven sc.env e ty.bool → nodes e ≤ 2000 → Covers live (reads e) → TestRuns w sc p live fs s e
+  given_tests fs _ (a_value {e = e} h) few cover = tests fs e ty.bool h refl few cover

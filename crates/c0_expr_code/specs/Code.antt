@@ -4,7 +4,7 @@ use Rattle.std.specs.Prelude.{ℕ, zero, suc, ◌+◌, ◌*◌, ◌-◌, ◌/◌
 use Rattle.mips_table.specs.Arith.{extended}
 use Rattle.mips_table.specs.declared.inst.Inst.{Inst}
 use Rattle.mips_table.specs.declared.inst.Inst.TheVariants.{Addu, Subu, Xor, Slt, Sltu, J, Beq, Bne, Addiu, Slti, Sltiu, Ori, Xori, Lui, Lw, Sw, Sll, Mult, Div as Divide, Mfhi, Mflo}
-use Rattle.masm.specs.declared.registers.TheConstants.{SCRATCH, ARGUMENTS, GLOBALS, FRAME_END}
+use Rattle.masm.specs.declared.registers.TheConstants.{SCRATCH, GLOBALS, FRAME_END}
 use Rattle.c0_tree.specs.declared.tree.Kind.{Kind}
 use Rattle.c0_tree.specs.declared.tree.Kind.TheVariants.{Unresolved, Struct, Field, Global, Local, Function, Primitive}
 use Rattle.c0_tree.specs.declared.tree.UnaryOp.{UnaryOp}
@@ -18,10 +18,15 @@ use Rattle.c0_meaning.specs.Env.{Shape}
 use Rattle.c0_meaning.specs.Expression.{target}
 use Rattle.c0_meaning.specs.Words.{shape_fields, words}
 use Rattle.c0_meaning.specs.Sizes.{words_before}
-use Rattle.c0_meaning.specs.Operators.{NullUse, Bounds, DivZero}
+use Rattle.c0_meaning.specs.Operators.{KernelFault, NullUse, Bounds, DivZero}
 use Rattle.c0_meaning.specs.TypeAt.{type_at}
 use Rattle.c0_meaning.specs.TypedState.{types_of}
-use Rattle.c0_expr_code.specs.FrameSetting.{frame_back, frame_setting}
+use Rattle.c0_typed.specs.Tree.{TExpr}
+use Rattle.c0_typed.specs.Typed.{typed_of_expr}
+use Rattle.c0_expr_code.specs.declared.facts.Facts.{Facts}
+use Rattle.c0_expr_code.specs.Facts.{is_sure_pointer, register_holding, facts_told}
+pub use Rattle.c0_expr_code.specs.Facts.{register_of_variable}
+use Rattle.c0_expr_code.specs.FrameSetting.{bytes_back}
 use Rattle.c0_expr_code.specs.Scope.{Scope}
 
 -- the types of the fields, where a type is a struct
@@ -46,11 +51,13 @@ pub record AddressingMode : Type 0 where
   pub displacement : ℕ
 
 -- A node: its value's code, into target with free registers from free; its place; the register where it stands with no code, if it
--- does; the number that is written there, if it is one; and the word that it is known to be, if it is.
+-- does; the register that it is, if it is a variable that stands nowhere else; the number that is written there, if it is one; and the
+-- word that it is known to be, if it is.
 pub record Made : Type 0 where
   pub value : (target free : ℕ) → List Inst
   pub place : (free : ℕ) → AddressingMode
   pub stands : Option ℕ
+  pub register : Option ℕ
   pub literal : Option ℕ
   pub known : Option ℕ
 
@@ -101,18 +108,22 @@ operand_code m r = or_code m.stands (m.value r r)
 abbrev pub operand_register : Made → ℕ → ℕ
 operand_register m r = unwrap_or m.stands r
 
+-- from r to d, unless d is r
+abbrev pub to_code : ℕ → ℕ → List Inst
+to_code d r = if d == r then [] else Addu d r 0 ∷ []
+
 -- a place as value
 abbrev pub at_place : (ℕ → AddressingMode) → Made
-at_place place = record { value = λ d r. load_code d r (place r); place = place; stands = None; literal = None; known = None }
+at_place place = record { value = λ d r. load_code d r (place r); place = place; stands = None; register = None; literal = None; known = None }
 
 -- a constant word, which a number may be written for
 abbrev pub constant : ℕ → Option ℕ → Made
 constant n literal =
-    record { value = λ d r. constant_code d n; place = no_address; stands = if n == 0 then Some 0 else None; literal = literal; known = Some n }
+    record { value = λ d r. constant_code d n; place = no_address; stands = if n == 0 then Some 0 else None; register = None; literal = literal; known = Some n }
 
 -- a value that is no place
 abbrev pub only_value : (ℕ → ℕ → List Inst) → Made
-only_value code = record { value = code; place = no_address; stands = None; literal = None; known = None }
+only_value code = record { value = code; place = no_address; stands = None; register = None; literal = None; known = None }
 
 -- the global of a number
 abbrev pub global_address : Scope → ℕ → AddressingMode
@@ -121,38 +132,49 @@ global_address sc n = record { code = []; base = GLOBALS; displacement = 4 * wor
 -- the variable of a number in the frame, which begins with three words of its own
 abbrev pub local_address : Scope → ℕ → AddressingMode
 local_address sc n =
-    record { code = []; base = FRAME_END; displacement = (frame_back (frame_setting sc) + (12 + 4 * words_before sc.env.structs (types_of sc.env.locals) n)) % 2 ^ 32 }
+    record { code = []; base = FRAME_END; displacement = (bytes_back sc.frame + (12 + 4 * words_before sc.env.structs (types_of sc.env.locals) n)) % 2 ^ 32 }
 
 -- what stands in a register
 abbrev pub register_made : ℕ → Made
-register_made q = record { value = λ d r. Addu d q 0 ∷ []; place = no_address; stands = Some q; literal = None; known = None }
+register_made q = record { value = λ d r. Addu d q 0 ∷ []; place = no_address; stands = Some q; register = Some q; literal = None; known = None }
 
--- the register of the variable of a number, where variables stand in registers
-abbrev pub register_of_variable : ℕ → ℕ
-register_of_variable n = (ARGUMENTS + n) % 2 ^ 5
+-- what stands in the frame as value, where a register may have it too
+abbrev pub frame_value : Option ℕ → AddressingMode → (d r : ℕ) → List Inst
+frame_value (Some q) x d r = to_code d q
+frame_value None x d r = load_code d r x
+
+-- what stands in the frame
+abbrev pub frame_made : Option ℕ → (ℕ → AddressingMode) → Made
+frame_made q place =
+    record { value = λ d r. frame_value q (place r) d r; place = place; stands = q; register = None; literal = None; known = None }
 
 -- a parameter or local
-abbrev pub local_made : Scope → ℕ → Made
-local_made sc n = if sc.in_registers then register_made (register_of_variable n) else at_place (λ r. local_address sc n)
+abbrev pub local_made : Scope → Facts → ℕ → Made
+local_made sc fs n = if sc.in_registers then register_made (register_of_variable n) else frame_made (register_holding fs n) (λ r. local_address sc n)
 
 -- a variable
-abbrev pub variable_made : Scope → Kind → ℕ → Made
-variable_made sc Unresolved n = at_place no_address
-variable_made sc Struct n = at_place no_address
-variable_made sc Field n = at_place no_address
-variable_made sc Global n = at_place (λ r. global_address sc n)
-variable_made sc Local n = local_made sc n
-variable_made sc Function n = at_place no_address
-variable_made sc Primitive n = at_place no_address
+abbrev pub variable_made : Scope → Facts → Kind → ℕ → Made
+variable_made sc fs Unresolved n = at_place no_address
+variable_made sc fs Struct n = at_place no_address
+variable_made sc fs Field n = at_place no_address
+variable_made sc fs Global n = at_place (λ r. global_address sc n)
+variable_made sc fs Local n = local_made sc fs n
+variable_made sc fs Function n = at_place no_address
+variable_made sc fs Primitive n = at_place no_address
 
 -- the place so many bytes further
 abbrev pub displaced : ℕ → AddressingMode → AddressingMode
 displaced k x = record { code = x.code; base = x.base; displacement = (x.displacement + k) % 2 ^ 32 }
 
+-- the test of a pointer, unless it surely isn't null
+abbrev pub null_test : (exit : KernelFault → ℕ) → (sure : Bool) → ℕ → List Inst
+null_test exit true q = []
+null_test exit false q = Bne q 0 1 ∷ J (exit NullUse) ∷ []
+
 -- what a pointer points to
-abbrev pub target_address : Scope → Made → ℕ → AddressingMode
-target_address sc m r =
-    record { code = operand_code m r ++ (Bne (operand_register m r) 0 1 ∷ J (sc.exit NullUse) ∷ []); base = operand_register m r; displacement = 0 }
+abbrev pub target_address : Scope → (sure : Bool) → Made → ℕ → AddressingMode
+target_address sc sure m r =
+    record { code = operand_code m r ++ null_test sc.exit sure (operand_register m r); base = operand_register m r; displacement = 0 }
 
 -- whether an index is below a length, into the scratch register
 abbrev pub bound_code : ℕ → ℕ → List Inst
@@ -196,10 +218,6 @@ two_code f a b r = operand_code a r ++ (operand_code b (r + 1) ++ f (operand_reg
 -- one side, and then code that has it in a register
 abbrev pub one_code : (ℕ → List Inst) → Made → ℕ → List Inst
 one_code f m r = operand_code m r ++ f (operand_register m r)
-
--- from r to d, unless d is r
-abbrev pub to_code : ℕ → ℕ → List Inst
-to_code d r = if d == r then [] else Addu d r 0 ∷ []
 
 -- `&&` and `||`: the left side, a branch over the right side, the right side, and the answer to d
 abbrev pub logic_code : (ℕ → Inst) → Made → Made → ℕ → ℕ → List Inst
@@ -317,25 +335,42 @@ field_made sc t place n = at_place (λ r. displaced (4 * words_before sc.env.str
 abbrev pub index_made : Scope → Option Ty → (ℕ → AddressingMode) → Made → Made
 index_made sc t place m = at_place (λ r. element_address sc (element_words sc.env.structs t) (length_in t) m.literal (place r) m r)
 
+-- what is known where the right side of an operator is evaluated: of `&&` and `||` the left side came out so
+abbrev pub right_facts : BinaryOp → TExpr → Facts → Facts
+right_facts Add a fs = fs
+right_facts Sub a fs = fs
+right_facts Mul a fs = fs
+right_facts Div a fs = fs
+right_facts Rem a fs = fs
+right_facts Lt a fs = fs
+right_facts Le a fs = fs
+right_facts Gt a fs = fs
+right_facts Ge a fs = fs
+right_facts Eq a fs = fs
+right_facts Ne a fs = fs
+right_facts And a fs = facts_told a true fs
+right_facts Or a fs = facts_told a false fs
+
 -- every node
-abbrev pub made : Scope → CExpr → Made
-made sc (num p n) = constant n (Some n)
-made sc (true_ p) = constant 1 None
-made sc (false_ p) = constant 0 None
-made sc (null p) = constant 0 None
-made sc (var x) = variable_made sc x.kind x.number
-made sc (field p e f) = field_made sc (type_at sc.env e) (made sc e).place f.number
-made sc (arrow p e f) = field_made sc (target (type_at sc.env e)) (λ r. target_address sc (made sc e) r) f.number
-made sc (index p e i) = index_made sc (type_at sc.env e) (made sc e).place (made sc i)
-made sc (deref p e) = at_place (λ r. target_address sc (made sc e) r)
-made sc (address p e) = only_value (λ d r. access_code (λ b k. Addiu d b k) r ((made sc e).place r))
-made sc (unary p o e) = unary_made o (made sc e)
-made sc (binary p o a b) = binary_made sc o (made sc a) (made sc b)
+abbrev pub made : Scope → Facts → CExpr → Made
+made sc fs (num p n) = constant n (Some n)
+made sc fs (true_ p) = constant 1 None
+made sc fs (false_ p) = constant 0 None
+made sc fs (null p) = constant 0 None
+made sc fs (var x) = variable_made sc fs x.kind x.number
+made sc fs (field p e f) = field_made sc (type_at sc.env e) (made sc fs e).place f.number
+made sc fs (arrow p e f) =
+    field_made sc (target (type_at sc.env e)) (λ r. target_address sc (is_sure_pointer fs (typed_of_expr sc.env e)) (made sc fs e) r) f.number
+made sc fs (index p e i) = index_made sc (type_at sc.env e) (made sc fs e).place (made sc fs i)
+made sc fs (deref p e) = at_place (λ r. target_address sc (is_sure_pointer fs (typed_of_expr sc.env e)) (made sc fs e) r)
+made sc fs (address p e) = only_value (λ d r. access_code (λ b k. Addiu d b k) r ((made sc fs e).place r))
+made sc fs (unary p o e) = unary_made o (made sc fs e)
+made sc fs (binary p o a b) = binary_made sc o (made sc fs a) (made sc (right_facts o (typed_of_expr sc.env a) fs) b)
 
 -- the code of a value, into d, with free registers from r
-abbrev pub value_code : Scope → CExpr → (d r : ℕ) → List Inst
-value_code sc e d r = (made sc e).value d r
+abbrev pub value_code : Scope → Facts → CExpr → (d r : ℕ) → List Inst
+value_code sc fs e d r = (made sc fs e).value d r
 
 -- the place of an expression that is one, with free registers from r
-abbrev pub place_address : Scope → CExpr → (r : ℕ) → AddressingMode
-place_address sc e r = (made sc e).place r
+abbrev pub place_address : Scope → Facts → CExpr → (r : ℕ) → AddressingMode
+place_address sc fs e r = (made sc fs e).place r

@@ -7,7 +7,7 @@ use Rattle.masm.specs.declared.registers.TheConstants.{SCRATCH}
 use Rattle.c0_expr_code.specs.declared.address.Address.{Address as Near}
 use Rattle.c0_expr_code.specs.declared.address.Access.{Access}
 use Rattle.c0_expr_code.specs.declared.address.Access.TheVariants.{Load, Store, Address}
-use Rattle.c0_expr_code.specs.Code.{AddressingMode, Immediate, constant_code, high, load_code, low}
+use Rattle.c0_expr_code.specs.Code.{AddressingMode, Immediate, constant_code, frame_value, high, low}
 
 -- the words of this code were appended, unless memory was wanting
 abbrev pub Appends : {A E : Type 0} → (old new : List ℕ) → List Inst → Result A E → Type 0
@@ -56,10 +56,11 @@ taken_inst false d = Mfhi d
 abbrev pub IsSameAddress : Near → AddressingMode → Type 0
 IsSameAddress x y = (x.base ≡ y.base) × (x.displacement ≡ y.displacement)
 
--- a variable as value: it stands in a register, or is loaded
-abbrev pub held_code : Option ℕ → AddressingMode → (d r : ℕ) → List Inst
-held_code (Some q) x d r = Addu d q 0 ∷ []
-held_code None x d r = load_code d r x
+-- a variable as value: it stands in a register, or in the frame, where a register may have it too
+abbrev pub held_code : (in_registers : Bool) → Option ℕ → AddressingMode → (d r : ℕ) → List Inst
+held_code true (Some q) x d r = Addu d q 0 ∷ []
+held_code true None x d r = frame_value None x d r
+held_code false q x d r = frame_value q x d r
 
 -- the branch over the right side of `||`, or else of `&&`
 abbrev pub logic_skip : Bool → (r k : ℕ) → Inst

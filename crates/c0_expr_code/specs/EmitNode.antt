@@ -1,20 +1,26 @@
 -- What the emitters of typed expressions say of the code that they append.
-use Rattle.std.specs.Prelude.{ℕ, ◌∷◌, ◌++◌, [], Bool, List}
+use Rattle.std.specs.Prelude.{ℕ, ◌∷◌, ◌++◌, [], Bool, not, List}
 use Rattle.mips_table.specs.declared.inst.Inst.{Inst}
 use Rattle.mips_table.specs.declared.inst.Inst.TheVariants.{Div}
 use Rattle.c0_tree.specs.declared.tree.BinaryOp.{BinaryOp}
 use Rattle.c0_typed.specs.declared.tree.Elements.{Elements}
 use Rattle.c0_typed.specs.declared.tree.TypedExpr.{TypedExpr}
+use Rattle.c0_typed.specs.View.{typed_expr_view}
 use Rattle.c0_expr_code.specs.declared.setting.CodeSetting.{CodeSetting}
 use Rattle.c0_expr_code.specs.Code.{AddressingMode, Immediate, Made, immediate_of, is_never_zero, logic_code, one_code, operator_code, operator_made, two_code}
 use Rattle.c0_expr_code.specs.Emit.{code_with, held_code, logic_skip, taken_inst}
-use Rattle.c0_expr_code.specs.Node.{divisor_test, element_place}
+use Rattle.c0_expr_code.specs.Facts.{is_sure_pointer}
+use Rattle.c0_expr_code.specs.Node.{divisor_test, element_place, target_place}
 use Rattle.c0_expr_code.specs.FrameSetting.{FrameSetting}
-use Rattle.c0_expr_code.specs.SettingIn.{node_in, setting_in}
+use Rattle.c0_expr_code.specs.SettingIn.{node_in, setting_in, setting_told}
 
 -- a parameter or local as value
 abbrev pub held_node : CodeSetting → TypedExpr → (d r : ℕ) → List Inst
-held_node s e d r = held_code (node_in s e).stands ((node_in s e).place r) d r
+held_node s e d r = held_code s.in_registers (node_in s e).stands ((node_in s e).place r) d r
+
+-- what a pointer points to
+abbrev pub target_node : CodeSetting → (pointer : TypedExpr) → ℕ → AddressingMode
+target_node s e r = target_place (setting_in s) (is_sure_pointer s.facts (typed_expr_view e)) (node_in s e) r
 
 -- an element whose index is tested
 abbrev pub tested_node : CodeSetting → Elements → (place index : TypedExpr) → ℕ → AddressingMode
@@ -43,4 +49,4 @@ quotient_nodes s is_quotient a b d r =
 
 -- `||`, or else `&&`, of two expressions
 abbrev pub logic_nodes : CodeSetting → (is_or : Bool) → (left right : TypedExpr) → (d r : ℕ) → List Inst
-logic_nodes s is_or a b d r = logic_code (λ k. logic_skip is_or r k) (node_in s a) (node_in s b) d r
+logic_nodes s is_or a b d r = logic_code (λ k. logic_skip is_or r k) (node_in s a) (node_in (setting_told s a (not is_or)) b) d r

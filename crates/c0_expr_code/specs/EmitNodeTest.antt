@@ -13,7 +13,7 @@ use Rattle.c0_expr_code.specs.EmitTest.{test_with}
 use Rattle.c0_expr_code.specs.Jumps.{Unpatched, UnpatchedTest, behind_unpatched, both_unpatched, joined_unpatched, last_unpatched}
 use Rattle.c0_expr_code.specs.Node.{node_test, order_test}
 use Rattle.c0_expr_code.specs.NodeJumps.{node_unpatched}
-use Rattle.c0_expr_code.specs.SettingIn.{node_in, setting_in}
+use Rattle.c0_expr_code.specs.SettingIn.{node_in, setting_in, setting_told}
 use Rattle.c0_expr_code.specs.Test.{Testing, compare_test, immediate_test, immediate_test_of, plain_test}
 
 -- a test and its open code in a setting
@@ -45,15 +45,16 @@ registers_node s o a c b r = compare_test None o (node_in s a) (node_in s c) b 0
 
 -- both tests go to the place where they are b
 abbrev pub joined_node : CodeSetting → (left right : TypedExpr) → Bool → ℕ → Unpatched
-joined_node s a c b r = joined_unpatched (open_node s a b r) (open_node s c b r)
+joined_node s a c b r = joined_unpatched (open_node s a b r) (open_node (setting_told s a (not b)) c b r)
 
 -- the first test goes over the second where it isn't b
 abbrev pub over_node : CodeSetting → (left right : TypedExpr) → Bool → ℕ → Unpatched
-over_node s a c b r = behind_unpatched (test_node s a (not b) (length (open_node s c b r).code % 2 ^ 16) r) (open_node s c b r)
+over_node s a c b r =
+    behind_unpatched (test_node s a (not b) (length (open_node (setting_told s a b) c b r).code % 2 ^ 16) r) (open_node (setting_told s a b) c b r)
 
 -- `||` and `&&`: where the first test alone decides for b both go to the place, and else the first goes over the second
 abbrev pub logic_node : CodeSetting → (decides : Bool) → (left right : TypedExpr) → Bool → ℕ → Unpatched
-logic_node s decides a c b r = both_unpatched decides b (test_node s a) (open_node s a) (open_node s c) r
+logic_node s decides a c b r = both_unpatched decides b (test_node s a) (open_node s a) (open_node (setting_told s a (not decides)) c) r
 
 -- an operator on two registers, where the whole is an expression too
 abbrev pub operation_node : CodeSetting → TypedExpr → Plain → (left right : TypedExpr) → Bool → ℕ → Unpatched

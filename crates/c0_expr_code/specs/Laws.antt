@@ -23,6 +23,8 @@ use Rattle.c0_meaning.specs.Sound.{shapes}
 use Rattle.c0_meaning.specs.Unit.{IsWellFormed}
 use Rattle.masm.specs.declared.registers.CodeAddresses.{CodeAddresses}
 use Rattle.masm.specs.CodeAddresses.{AreCodeAddresses}
+use Rattle.c0_expr_code.specs.declared.facts.Facts.{Facts}
+use Rattle.c0_expr_code.specs.Facts.{IsFreeRegister}
 use Rattle.c0_expr_code.specs.Scope.{Scope, scope_of}
 use Rattle.c0_expr_code.specs.Code.{AddressingMode, store_code, operand_code, operand_register, made, value_code, place_address}
 use Rattle.c0_expr_code.specs.Reads.{reads, reads_to_find, Covers}
@@ -30,37 +32,37 @@ use Rattle.c0_expr_code.specs.Test.{test_code}
 use Rattle.c0_expr_code.specs.Bases.{words_of_all, Bases, types_in, location_word, word_of_scalar, RegionHeld, LocalsHeld}
 use Rattle.c0_expr_code.specs.Relation.{layout, StateIsTyped, Ready, KeepsRegisters, Area, Source, evaluation_units, PlaceRuns, Right, TestRuns}
 
--- the code of every typed expression whose variables are live comes to what it means: as a value, as an operand, and as a place
+-- the code of every typed expression whose variables are live comes to what it means: as a value, as an operand, and as a place; whatever is known
 abbrev pub ExpressionsRun : Type 0
-ExpressionsRun = (w : World) (sc : Scope) (p : Bases) (live : ℕ → Bool) (s : C0State) → Sound w → Area w sc p → StateIsTyped sc p s
-    → (e : CExpr) (t : Ty) → HasNumberedType sc.env e t → nodes e ≤ 2000 → Covers live (reads e) → Right w sc p live s e t
+ExpressionsRun = (w : World) (sc : Scope) (p : Bases) (live : ℕ → Bool) (fs : Facts) (s : C0State) → Sound w → Area w sc p → StateIsTyped sc p s
+    → (e : CExpr) (t : Ty) → HasNumberedType sc.env e t → nodes e ≤ 2000 → Covers live (reads e) → Right w sc p live fs s e t
 
 -- so does the code of an expression that may stand where a type is asked, as `null` where a pointer is
 abbrev pub GivenRun : Type 0
-GivenRun = (w : World) (sc : Scope) (p : Bases) (live : ℕ → Bool) (s : C0State) → Sound w → Area w sc p → StateIsTyped sc p s
-    → (e : CExpr) (t : Ty) → IsNumberedGiven sc.env e t → nodes e ≤ 2000 → Covers live (reads e) → Right w sc p live s e t
+GivenRun = (w : World) (sc : Scope) (p : Bases) (live : ℕ → Bool) (fs : Facts) (s : C0State) → Sound w → Area w sc p → StateIsTyped sc p s
+    → (e : CExpr) (t : Ty) → IsNumberedGiven sc.env e t → nodes e ≤ 2000 → Covers live (reads e) → Right w sc p live fs s e t
 
--- the code of a place that doesn't stand in a register finds it, where the variables are live that are read for it
+-- the code of a place that is no register finds it, where the variables are live that are read for it
 abbrev pub PlacesRun : Type 0
-PlacesRun = (w : World) (sc : Scope) (p : Bases) (live : ℕ → Bool) (s : C0State) → Sound w → Area w sc p → StateIsTyped sc p s
-    → (e : CExpr) (t : Ty) → HasNumberedType sc.env e t → nodes e ≤ 2000 → Covers live (reads_to_find e) → is_lvalue e ≡ true → (made sc e).stands ≡ None
-    → PlaceRuns w sc p live s (made sc e) (need e) (is_frame_place e) t (place_of e s)
+PlacesRun = (w : World) (sc : Scope) (p : Bases) (live : ℕ → Bool) (fs : Facts) (s : C0State) → Sound w → Area w sc p → StateIsTyped sc p s
+    → (e : CExpr) (t : Ty) → HasNumberedType sc.env e t → nodes e ≤ 2000 → Covers live (reads_to_find e) → is_lvalue e ≡ true → (made sc fs e).register ≡ None
+    → PlaceRuns w sc p live fs s (made sc fs e) (need e) (is_frame_place e) t (place_of e s)
 
 -- the code of every typed test goes where its answer says
 abbrev pub TestsRun : Type 0
-TestsRun = (w : World) (sc : Scope) (p : Bases) (live : ℕ → Bool) (s : C0State) → Sound w → Area w sc p → StateIsTyped sc p s
-    → (e : CExpr) → IsNumberedGiven sc.env e bool → nodes e ≤ 2000 → Covers live (reads e) → TestRuns w sc p live s e
+TestsRun = (w : World) (sc : Scope) (p : Bases) (live : ℕ → Bool) (fs : Facts) (s : C0State) → Sound w → Area w sc p → StateIsTyped sc p s
+    → (e : CExpr) → IsNumberedGiven sc.env e bool → nodes e ≤ 2000 → Covers live (reads e) → TestRuns w sc p live fs s e
 
--- The code is short: at most 14 words a node, with room for three more behind a place, and 15 for a test; never empty as a value or a test; and
--- a test's is as long for each distance.
+-- The code is short: at most 14 words a node, with room for three more behind a place, and 15 for a test; never empty as a test, nor as a value where
+-- variables stand in registers, or it goes to none that has a variable's word; and a test's is as long for each distance.
 pub record CodesAreShort : Type 0 where
-  pub value : (sc : Scope) (e : CExpr) (d r : ℕ) → length (value_code sc e d r) ≤ 14 * nodes e
-  pub operand : (sc : Scope) (e : CExpr) (r : ℕ) → length (operand_code (made sc e) r) ≤ 14 * nodes e
-  pub place : (sc : Scope) (e : CExpr) (r : ℕ) → length (place_address sc e r).code + 3 ≤ 14 * nodes e
-  pub test : (sc : Scope) (e : CExpr) (s : Bool) (far r : ℕ) → length (test_code sc e s far r) ≤ 15 * nodes e
-  pub some : (sc : Scope) (e : CExpr) (d r : ℕ) → 1 ≤ length (value_code sc e d r)
-  pub test_some : (sc : Scope) (e : CExpr) (s : Bool) (far r : ℕ) → 1 ≤ length (test_code sc e s far r)
-  pub same : (sc : Scope) (e : CExpr) (s : Bool) (far other r : ℕ) → length (test_code sc e s far r) ≡ length (test_code sc e s other r)
+  pub value : (sc : Scope) (fs : Facts) (e : CExpr) (d r : ℕ) → length (value_code sc fs e d r) ≤ 14 * nodes e
+  pub operand : (sc : Scope) (fs : Facts) (e : CExpr) (r : ℕ) → length (operand_code (made sc fs e) r) ≤ 14 * nodes e
+  pub place : (sc : Scope) (fs : Facts) (e : CExpr) (r : ℕ) → length (place_address sc fs e r).code + 3 ≤ 14 * nodes e
+  pub test : (sc : Scope) (fs : Facts) (e : CExpr) (s : Bool) (far r : ℕ) → length (test_code sc fs e s far r) ≤ 15 * nodes e
+  pub some : (sc : Scope) (fs : Facts) (e : CExpr) (d r : ℕ) → (sc.in_registers ≡ true) ⊎ IsFreeRegister fs d → 1 ≤ length (value_code sc fs e d r)
+  pub test_some : (sc : Scope) (fs : Facts) (e : CExpr) (s : Bool) (far r : ℕ) → 1 ≤ length (test_code sc fs e s far r)
+  pub same : (sc : Scope) (fs : Facts) (e : CExpr) (s : Bool) (far other r : ℕ) → length (test_code sc fs e s far r) ≡ length (test_code sc fs e s other r)
 
 -- no evaluation costs more units than its expression has nodes
 pub record CostsAreFew : Type 0 where
@@ -183,9 +185,11 @@ ExitsAreNear = (u : CUnit) (f : CFunction) (addresses : CodeAddresses) → AreCo
 -- Where the exits lie in the part that jumps reach, all code is in range, for every expression: of values, operands, places, stores and tests, with
 -- registers enough for the expression's need.
 pub record CodesInRange : Type 0 where
-  pub value : (sc : Scope) → HasNearExits sc → (e : CExpr) (d r : ℕ) → d < 32 → r + need e ≤ 32 → All InRange (value_code sc e d r)
-  pub operand : (sc : Scope) → HasNearExits sc → (e : CExpr) (r : ℕ) → r + need e ≤ 32 → All InRange (operand_code (made sc e) r)
-  pub register : (sc : Scope) → HasNearExits sc → (e : CExpr) (r : ℕ) → r + need e ≤ 32 → operand_register (made sc e) r < 32
-  pub place : (sc : Scope) → HasNearExits sc → (e : CExpr) (r : ℕ) → r + need e ≤ 32 → All InRange (place_address sc e r).code
-  pub store : (sc : Scope) → HasNearExits sc → (e : CExpr) (q r : ℕ) → q < 32 → r + need e ≤ 32 → All InRange (store_code q r (place_address sc e r))
-  pub test : (sc : Scope) → HasNearExits sc → (e : CExpr) (s : Bool) (far r : ℕ) → far < 2 ^ 16 → r + need e ≤ 32 → All InRange (test_code sc e s far r)
+  pub value : (sc : Scope) → HasNearExits sc → (fs : Facts) (e : CExpr) (d r : ℕ) → d < 32 → r + need e ≤ 32 → All InRange (value_code sc fs e d r)
+  pub operand : (sc : Scope) → HasNearExits sc → (fs : Facts) (e : CExpr) (r : ℕ) → r + need e ≤ 32 → All InRange (operand_code (made sc fs e) r)
+  pub register : (sc : Scope) → HasNearExits sc → (fs : Facts) (e : CExpr) (r : ℕ) → r + need e ≤ 32 → operand_register (made sc fs e) r < 32
+  pub place : (sc : Scope) → HasNearExits sc → (fs : Facts) (e : CExpr) (r : ℕ) → r + need e ≤ 32 → All InRange (place_address sc fs e r).code
+  pub store : (sc : Scope) → HasNearExits sc → (fs : Facts) (e : CExpr) (q r : ℕ) → q < 32 → r + need e ≤ 32
+      → All InRange (store_code q r (place_address sc fs e r))
+  pub test : (sc : Scope) → HasNearExits sc → (fs : Facts) (e : CExpr) (s : Bool) (far r : ℕ) → far < 2 ^ 16 → r + need e ≤ 32
+      → All InRange (test_code sc fs e s far r)

@@ -4,15 +4,15 @@ use Rattle.mips_table.specs.Encoding.{encoding}
 use Rattle.c0_typed.specs.Tree.{TExpr, negation, plain, both, either}
 use Rattle.c0_expr_code.specs.Jumps.{UnpatchedTest, both_unpatched, last_unpatched, patched}
 use Rattle.c0_expr_code.specs.Node.{node_made, node_test, order_test}
-use Rattle.c0_expr_code.specs.FrameSetting.{FrameSetting}
+use Rattle.c0_expr_code.specs.FrameSetting.{FrameSetting, where_told}
 use Rattle.c0_expr_code.specs.Test.{plain_test}
 
 -- every test
 abbrev pub node_unpatched : FrameSetting → TExpr → UnpatchedTest
 node_unpatched st (negation e) s r = node_unpatched st e (not s) r
 node_unpatched st (plain o a b) s r = last_unpatched (order_test o (node_made st (plain o a b)) (node_made st a) (node_made st b) s 0 r)
-node_unpatched st (both a b) s r = both_unpatched false s (node_test st a) (node_unpatched st a) (node_unpatched st b) r
-node_unpatched st (either a b) s r = both_unpatched true s (node_test st a) (node_unpatched st a) (node_unpatched st b) r
+node_unpatched st (both a b) s r = both_unpatched false s (node_test st a) (node_unpatched st a) (node_unpatched (where_told st a true) b) r
+node_unpatched st (either a b) s r = both_unpatched true s (node_test st a) (node_unpatched st a) (node_unpatched (where_told st a false) b) r
 node_unpatched st e s r = last_unpatched (plain_test (node_made st e) s 0 r)
 
 -- A law: a typed test's open code, patched where it stands between other words, is the test's code with the distance to the place.

@@ -9,8 +9,10 @@ use Rattle.c0_tree.specs.declared.tree.UnaryOp.TheVariants.{Negate, Not}
 use Rattle.c0_tree.specs.declared.tree.BinaryOp.{BinaryOp}
 use Rattle.c0_tree.specs.declared.tree.BinaryOp.TheVariants.{Add, Sub, Mul, Div, Rem, Lt, Le, Gt, Ge, Eq, Ne, And, Or}
 use Rattle.c0_tree.specs.Tree.{CExpr, unary, binary}
+use Rattle.c0_typed.specs.Typed.{typed_of_expr}
+use Rattle.c0_expr_code.specs.declared.facts.Facts.{Facts}
 use Rattle.c0_expr_code.specs.Scope.{Scope}
-use Rattle.c0_expr_code.specs.Code.{low, is_near, Made, one_code, two_code, made}
+use Rattle.c0_expr_code.specs.Code.{low, is_near, Made, one_code, two_code, made, right_facts}
 
 -- to the place where two registers are equal, or where they differ
 abbrev pub branch_code : Bool → (q t far : ℕ) → Inst
@@ -120,7 +122,9 @@ unary_test Negate m e s far r = plain_test m s far r
 unary_test Not m e s far r = e (not s) far r
 
 -- every test
-abbrev pub test_code : Scope → CExpr → Testing
-test_code sc (unary p o e) s far r = unary_test o (made sc (unary p o e)) (test_code sc e) s far r
-test_code sc (binary p o a b) s far r = binary_test o (made sc (binary p o a b)) (made sc a) (made sc b) (test_code sc a) (test_code sc b) s far r
-test_code sc e s far r = plain_test (made sc e) s far r
+abbrev pub test_code : Scope → Facts → CExpr → Testing
+test_code sc fs (unary p o e) s far r = unary_test o (made sc fs (unary p o e)) (test_code sc fs e) s far r
+test_code sc fs (binary p o a b) s far r =
+    binary_test o (made sc fs (binary p o a b)) (made sc fs a) (made sc (right_facts o (typed_of_expr sc.env a) fs) b)
+    (test_code sc fs a) (test_code sc (right_facts o (typed_of_expr sc.env a) fs) b) s far r
+test_code sc fs e s far r = plain_test (made sc fs e) s far r

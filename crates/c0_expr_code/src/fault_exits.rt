@@ -4,7 +4,7 @@ ghost use Rattle.std.specs.Prelude.{◌≡◌, ◌<◌, ◌^◌, [], ◌∷◌, 
 ghost use Rattle.masm.specs.CodeAddresses.{IsJumpTarget};
 
 /// The addresses of the exits of faults, in bytes, each below 2^28.
-#[derive(Drop)]
+#[derive(Clone, Copy, Debug)]
 pub struct FaultExits {
     /// That of a use of null.
     pub null_use: u32,

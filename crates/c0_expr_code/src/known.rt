@@ -2,10 +2,10 @@
 
 ghost use Rattle.std.specs.Prelude.{◌≡◌, ℕ, ◌+◌, ◌-◌, ◌*◌, ◌%◌, ◌^◌, ◌<◌, Some, IfSome};
 ghost use Rattle.c0_typed.specs.View.{typed_expr_view};
-ghost use Rattle.c0_expr_code.specs.Code.{register_of_variable};
+ghost use Rattle.c0_expr_code.specs.Facts.{register_of_variable};
 ghost use Rattle.c0_expr_code.specs.Emit.{IsSameAddress};
 ghost use Rattle.c0_expr_code.specs.FrameSetting.{FrameSetting};
-ghost use Rattle.c0_expr_code.specs.Known.{local_register, stands_of, written_word, zero_register};
+ghost use Rattle.c0_expr_code.specs.Known.{local_register, own_register, stands_of, written_word, zero_register};
 ghost use Rattle.c0_expr_code.specs.Node.{local_node, node_made};
 ghost use Rattle.c0_expr_code.specs.SettingIn.{node_in, setting_in};
 
@@ -60,26 +60,26 @@ fn register_of(number: u32) -> u32
     ((u64::from(ARGUMENTS) + u64::from(number)) % 32) as u32
 }
 
-// The register of a variable, where variables stand in registers.
-fn register_where(in_registers: bool, number: u32) -> Option<u32>
-    ensures value { result ≡ local_register in_registers number }
+// The register of a variable, where variables stand in registers, or that has its word.
+fn register_where(setting: &CodeSetting, number: u32) -> Option<u32>
+    ensures value { result ≡ local_register setting.now.in_registers setting.now.facts number }
     ensures small { IfSome result (λ q. q < 32) }
 {
-    if in_registers {
+    if setting.in_registers {
         Some(register_of(number))
     } else {
-        None
+        setting.facts.register_holding(number)
     }
 }
 
-// The register in which an expression stands with no code; `in_registers` tells whether variables do.
-fn stands(in_registers: bool, expr: &TypedExpr) -> Option<u32>
-    ensures value { result ≡ stands_of in_registers (typed_expr_view expr.now) }
+// The register in which an expression stands with no code.
+fn stands(setting: &CodeSetting, expr: &TypedExpr) -> Option<u32>
+    ensures value { result ≡ stands_of setting.now.in_registers setting.now.facts (typed_expr_view expr.now) }
     ensures small { IfSome result (λ q. q < 32) }
 {
     match expr {
         TypedExpr::Global(_) => None,
-        TypedExpr::Local(number, _) => register_where(in_registers, *number),
+        TypedExpr::Local(number, _) => register_where(setting, *number),
         TypedExpr::Part(_, _) => None,
         TypedExpr::Element(_, _, _) => None,
         TypedExpr::Target(_) => None,
@@ -100,7 +100,44 @@ pub fn register_standing(setting: &CodeSetting, expr: &TypedExpr) -> Option<u32>
     ensures value { result ≡ (node_in setting.now expr.now).stands }
     ensures small { IfSome result (λ q. q < 32) }
 {
-    stands(setting.in_registers, expr)
+    stands(setting, expr)
+}
+
+// The register of a variable, where variables stand in registers.
+fn own(in_registers: bool, expr: &TypedExpr) -> Option<u32>
+    ensures value { result ≡ own_register in_registers (typed_expr_view expr.now) }
+    ensures small { IfSome result (λ q. q < 32) }
+{
+    match expr {
+        TypedExpr::Global(_) => None,
+        TypedExpr::Local(number, _) => {
+            if in_registers {
+                Some(register_of(*number))
+            } else {
+                None
+            }
+        }
+        TypedExpr::Part(_, _) => None,
+        TypedExpr::Element(_, _, _) => None,
+        TypedExpr::Target(_) => None,
+        TypedExpr::Constant(_) => None,
+        TypedExpr::Address(_) => None,
+        TypedExpr::Negative(_) => None,
+        TypedExpr::Negation(_) => None,
+        TypedExpr::Plain(_, _, _) => None,
+        TypedExpr::Quotient(_, _) => None,
+        TypedExpr::Remainder(_, _) => None,
+        TypedExpr::Both(_, _) => None,
+        TypedExpr::Either(_, _) => None,
+    }
+}
+
+/// The register that an expression is, where it is a variable that stands nowhere else.
+pub fn register_place(setting: &CodeSetting, expr: &TypedExpr) -> Option<u32>
+    ensures value { result ≡ (node_in setting.now expr.now).register }
+    ensures small { IfSome result (λ q. q < 32) }
+{
+    own(setting.in_registers, expr)
 }
 
 /// The bytes from the frame's end to a word of the frame, modulo 2^32.

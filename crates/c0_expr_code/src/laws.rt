@@ -2,8 +2,9 @@
 
 ghost use Rattle.c0_expr_code.specs.Laws.{AreasHold, CodesAreShort, CodesInRange, CostsAreFew, ExitsAreNear, ExpressionsRun, GivenRun};
 ghost use Rattle.c0_expr_code.specs.Laws.{HeldElsewhere, HeldStays, NamesAreEnough, PartsFit, PlacesRun, StoresHold, StoresRun, TestsRun};
+ghost use Rattle.c0_expr_code.specs.FactLaws.{FactsGrow, FactsStay};
 ghost use Rattle.mips_table.specs.Code.{World, Sound};
-ghost use Rattle.c0_expr_code.specs.Rows.{AreAddresses, AreSums, AreTests};
+ghost use Rattle.c0_expr_code.specs.Rows.{AreAddresses, AreFactRows, AreSums, AreTests};
 
 use c0_meaning::laws::{units_are_typed_or_faulty, words_are_those_of_the_parts};
 use c0_meaning::run_laws::{declared_types_have_words, parts_of_a_type_are_apart};
@@ -26,6 +27,16 @@ pub fn tests_run()
     straight_code_runs();
     jumps_lead();
 }
+
+/// What evaluations and tests tell of variables is so.
+pub fn facts_grow()
+    ensures { FactsGrow }
+{}
+
+/// What is known of variables holds on, as far as it isn't lost.
+pub fn facts_stay()
+    ensures { FactsStay }
+{}
 
 /// The code has few words for each node.
 pub fn codes_are_short()
@@ -85,6 +96,7 @@ pub fn worked_rows()
     ensures sums { AreSums }
     ensures places { AreAddresses }
     ensures tests { AreTests }
+    ensures facts { AreFactRows }
 {}
 
 /// The instructions of the code are in range, and the exits of a function's scope where jumps reach them.

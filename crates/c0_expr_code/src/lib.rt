@@ -4,6 +4,7 @@
 mod address;
 mod constant;
 mod element;
+mod facts;
 mod fault_exits;
 mod known;
 pub mod laws;
@@ -17,8 +18,9 @@ mod word;
 
 pub use address::{Access, Address, emit_access};
 pub use constant::emit_constant;
+pub use facts::Facts;
 pub use fault_exits::FaultExits;
-pub use known::{frame_bytes, register_standing};
+pub use known::{frame_bytes, register_place, register_standing};
 pub use node::{emit_operand, emit_place, emit_value};
 pub use patching::{patch, patch_all};
 pub use setting::CodeSetting;

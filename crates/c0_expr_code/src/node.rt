@@ -1,16 +1,16 @@
 // The code of typed expressions. Where memory is wanting, a part of an expression's code may stand behind what stood before.
 
-ghost use Rattle.std.specs.Prelude.{◌≡◌, ◌+◌, ◌≤◌, ◌<◌, ◌∷◌, [], true, IfOk};
+ghost use Rattle.std.specs.Prelude.{◌≡◌, ℕ, ◌+◌, ◌≤◌, ◌<◌, ◌∷◌, [], true, IfOk, Some};
 ghost use Rattle.mips_table.specs.Encoding.{InRange};
 ghost use Rattle.mips_table.specs.declared.inst.Inst.TheVariants.{Subu, Xori};
 ghost use Rattle.c0_typed.specs.declared.sorted.Plain.TheVariants.{Sum};
 ghost use Rattle.c0_typed.specs.Size.{typed_need};
 ghost use Rattle.c0_typed.specs.Sorted.{plain_of};
 ghost use Rattle.c0_typed.specs.View.{typed_expr_view};
-ghost use Rattle.c0_expr_code.specs.Code.{immediate, access_code, is_never_zero, one_code, operand_code, operand_register, to_code};
-ghost use Rattle.c0_expr_code.specs.Emit.{Appends, IsSameAddress, access_inst, is_immediate, logic_skip, right_code};
-ghost use Rattle.c0_expr_code.specs.EmitNode.{held_node, logic_nodes, plain_nodes, quotient_nodes, side_node, sides_nodes, tested_node};
-ghost use Rattle.c0_expr_code.specs.Node.{plain_node, target_place};
+ghost use Rattle.c0_expr_code.specs.Code.{AddressingMode, immediate, access_code, is_never_zero, null_test, one_code, operand_code, operand_register, to_code};
+ghost use Rattle.c0_expr_code.specs.Emit.{Appends, IsSameAddress, access_inst, held_code, is_immediate, logic_skip, right_code};
+ghost use Rattle.c0_expr_code.specs.EmitNode.{held_node, logic_nodes, plain_nodes, quotient_nodes, side_node, sides_nodes, target_node, tested_node};
+ghost use Rattle.c0_expr_code.specs.Node.{plain_node};
 ghost use Rattle.c0_expr_code.specs.SettingIn.{node_in, setting_in};
 
 use crate::address::{Access, Address, emit_access};
@@ -136,6 +136,23 @@ pub fn emit_place(
     }
 }
 
+// Appends the test of a pointer, unless it surely isn't null.
+fn emit_null_test(
+    code: &mut Vec<u32>,
+    setting: &CodeSetting,
+    is_sure: bool,
+    register: u32,
+) -> Result<(), AllocError>
+    requires { register < 32 }
+    ensures { Appends code.old.items code.new.items (null_test (setting_in setting.now).exit is_sure register) result }
+{
+    if is_sure {
+        Ok(())
+    } else {
+        emit_guard(code, register, setting.exits.null_use)
+    }
+}
+
 // Appends the code of what a pointer points to.
 #[cycle(node)]
 fn emit_target(
@@ -145,12 +162,13 @@ fn emit_target(
     code: &mut Vec<u32>,
 ) -> Result<Address, AllocError>
     requires { free + typed_need (typed_expr_view pointer.now) ≤ 20 }
-    ensures code { Appends code.old.items code.new.items (target_place (setting_in setting.now) (node_in setting.now pointer.now) free).code result }
-    ensures place { IfOk result (λ x. IsSameAddress x (target_place (setting_in setting.now) (node_in setting.now pointer.now) free)) }
+    ensures code { Appends code.old.items code.new.items (target_node setting.now pointer.now free).code result }
+    ensures place { IfOk result (λ x. IsSameAddress x (target_node setting.now pointer.now free)) }
     ensures small { IfOk result (λ x. x.base < 32) }
 {
     let base = emit_operand(setting, pointer, free, code)?;
-    emit_guard(code, base, setting.exits.null_use)?;
+    let is_sure = setting.facts.is_sure_pointer(pointer);
+    emit_null_test(code, setting, is_sure, base)?;
     Ok(Address {
         base,
         displacement: 0,
@@ -243,6 +261,31 @@ fn emit_held(
     emit_access(code, access, target, free, address)
 }
 
+// Appends a copy of a variable's register, also of one to itself where variables stand in registers alone.
+fn emit_copy(
+    code: &mut Vec<u32>,
+    setting: &CodeSetting,
+    target: u32,
+    source: u32,
+) -> Result<(), AllocError>
+    requires target { target < 32 }
+    requires source { source < 32 }
+    ensures { (x : AddressingMode) (r : ℕ) → Appends code.old.items code.new.items (held_code setting.now.in_registers (Some source) x target r) result }
+{
+    if setting.in_registers {
+        emit(
+            code,
+            Inst::Addu {
+                rd: target,
+                rs: source,
+                rt: 0,
+            },
+        )
+    } else {
+        emit_to(code, target, source)
+    }
+}
+
 // Appends the code of a parameter or local as value.
 #[cycle(node)]
 fn emit_local(
@@ -257,14 +300,7 @@ fn emit_local(
     ensures { Appends code.old.items code.new.items (held_node setting.now expr.now target free) result }
 {
     if let Some(source) = register_standing(setting, expr) {
-        return emit(
-            code,
-            Inst::Addu {
-                rd: target,
-                rs: source,
-                rt: 0,
-            },
-        );
+        return emit_copy(code, setting, target, source);
     }
     emit_held(setting, expr, Access::Load, target, free, code)
 }
@@ -495,6 +531,7 @@ fn emit_logic(
     ensures { Appends code.old.items code.new.items (logic_nodes setting.now is_or left.now right.now target free) result }
 {
     emit_value(setting, left, free, free, code)?;
-    emit_right(setting, is_or, right, free, code)?;
+    let behind = setting.told(left, !is_or);
+    emit_right(&behind, is_or, right, free, code)?;
     emit_to(code, target, free)
 }

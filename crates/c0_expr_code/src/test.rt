@@ -458,7 +458,8 @@ fn emit_joined(
     ensures { AppendsTest code.old code.new jumps.old jumps.new (joined_node setting.now left.now right.now wanted free) result }
 {
     emit_test(alloc, setting, left, wanted, free, code, jumps)?;
-    emit_test(alloc, setting, right, wanted, free, code, jumps)
+    let behind = setting.told(left, !wanted);
+    emit_test(alloc, &behind, right, wanted, free, code, jumps)
 }
 
 // Appends two tests, of which the first goes over the second where it isn't `wanted`.
@@ -479,7 +480,8 @@ fn emit_over(
 {
     let mut over = Vec::new(alloc);
     emit_test(alloc, setting, left, !wanted, free, code, &mut over)?;
-    emit_test(alloc, setting, right, wanted, free, code, jumps)?;
+    let behind = setting.told(left, wanted);
+    emit_test(alloc, &behind, right, wanted, free, code, jumps)?;
     let end = code.len();
     patch_all(code, &over, end);
     Ok(())

@@ -4,7 +4,7 @@ use Rattle.std.proofs.Common.{◌≡◌, ◌≢◌, ℕ, ◌+◌, ◌*◌, ◌^�
 use Rattle.std.proofs.lemmas.Int.{ints}
 use Rattle.mips_table.specs.declared.inst.Inst.TheVariants.{Addu}
 use Rattle.mips_table.specs.Arith.{sum}
-use Rattle.mips_table.specs.Code.{Contents, reg, with_reg, Behind, CodeState, at_with, RunLaws, CodeAt}
+use Rattle.mips_table.specs.Code.{Contents, reg, with_reg, Behind, at_with, RunLaws, CodeAt}
 use Rattle.masm.specs.Says.{Gives}
 use Rattle.masm.specs.Laws.{RunsCompose, JumpsLead, StraightRuns}
 use Rattle.c0_tree.specs.Tree.{CExpr, CStmts, CFunction}
@@ -23,7 +23,11 @@ use Rattle.c0_expr_code.specs.Code.{made}
 use Rattle.c0_expr_code.specs.Bases.{words_of_all, location_word}
 use Rattle.c0_stmt_code.specs.Code.{answer_code, stored_code}
 use Rattle.c0_stmt_code.specs.Setup.{Setup}
-use Rattle.c0_stmt_code.specs.Ahead.{Activation, body_env, HasAnswerPlace, Block, Ahead}
+use Rattle.c0_stmt_code.specs.Ahead.{Activation, body_env, AnswerStands, Block}
+use Rattle.c0_typed.specs.Typed.{typed_of_expr}
+use Rattle.c0_stmt_code.specs.Behind.{stored_facts}
+use Rattle.c0_stmt_code.proofs.FactsKept.{answer_sure}
+use Rattle.c0_stmt_code.proofs.WorkAsCode.{Goes}
 use Rattle.c0_stmt_code.specs.Standing.{code_text, scope, bases, end_of, unit_scope, word_of_value, Waiting, FunctionRuns, ConfigurationStands}
 use Rattle.c0_stmt_code.proofs.PremisesFromBelow.{HeldStays, TypedStays, LengthsFit}
 use Rattle.c0_stmt_code.proofs.PremisesOfLowerCrates.{room_from}
@@ -79,21 +83,21 @@ module _ (runs : RunLaws) (compose : RunsCompose) (W E : Type 0) (Outer : W → 
   is_word (ty.array t n) (group vs) f = omega arith
   is_word _ _ f = absurd f
 
-  pub finishes_light : (place : CExpr) (v : Value) (t : Ty) (x : ℕ) → Fits (shapes z.p.unit) (store_typing z.p.unit objects) t v → c.regs 2 ≡ word_of_value W E Outer z objects v → IsVariable (body_env (code_text W E Outer z) a.function) sc place x t → (made sc place).stands ≡ Some x
-      → HasAnswerPlace (code_text W E Outer z) a.function place t → CodeAt z.w k (answer_code sc place) → Block (code_text W E Outer z) a.function (k + length (answer_code sc place)) debt rest (λ to left. Ahead (code_text W E Outer z) (a ∷ others) to left work)
+  pub finishes_light : (place : CExpr) (v : Value) (t : Ty) (x : ℕ) → Fits (shapes z.p.unit) (store_typing z.p.unit objects) t v → c.regs 2 ≡ word_of_value W E Outer z objects v → IsVariable (body_env (code_text W E Outer z) a.function) sc place x t → (h : AnswerStands (code_text W E Outer z) a.function a.facts k place t) → (made sc h.before place).register ≡ Some x
+      → Block (code_text W E Outer z) a.function h.behind (k + length (answer_code sc h.before place)) debt rest (λ fs to left. Goes (code_text W E Outer z) a others work fs to left)
       → AreLiveAtPlace a.live others place rest work → GoesOn W E Outer z debt here (at_with k c d) (store (units 0) place v rest work here)
-  finishes_light place v t x fits is y stands answered code block live =
+  finishes_light place v t x fits is y h stands block live =
       let at = (its_place runs compose W E Outer z jumps straight held typing exprs fit objects gv hv hw g fs world calls answer c d a others st r waits k debt rest work place t x y).at in
       let nz : x ≢ 0 = λ q. absurd (omega (arith, q, at)) in
-      let same : answer_code sc place ≡ Addu x 2 0 ∷ [] = ap (λ o. stored_code 2 8 o (made sc place).place) stands in
-      let there = subst (CodeAt z.w k) same code in
+      let same : answer_code sc h.before place ≡ Addu x 2 0 ∷ [] = ap (λ o. stored_code 2 8 o (made sc h.before place).place) stands in
+      let there = subst (CodeAt z.w k) same h.code in
       let small = is_word t v fits in
       let value : sum (reg c.regs 2) (reg c.regs 0) ≡ c.regs 2 = omega (arith, is, small) in
       let c1 : Contents = with_reg c x (c.regs 2) in
       let one = straight.next (Addu x 2 0) (Gives (c.regs 2)) k c d there.0 refl st.idle value in
       let go = away runs z.w 1 (at_with k c d) (at_with (k + 1) (with_reg c x (c.regs 2)) d) (λ q. absurd (omega (arith, q))) one in
       let canonical = word_same (shapes z.p.unit) (map typed_of z.p.unit.globals) z.a.globals z.a.heap objects objects (λ path t h. refl) (rest_of (unit_scope z.p.unit)) (rest_of sc) (end_of W E Outer z []) (end_of W E Outer z (g ∷ fs)) t v fits in
-      let len : k + length (answer_code sc place) ≡ k + 1 = ap (λ is. k + length is) same in
-      stores_light runs compose W E Outer z jumps straight held typing exprs fit objects gv hv hw g fs world calls answer c d a others st r waits k debt rest work place t x v 1 1 (k + 1) (units 0) (at_with k c d) (with_reg c x (c.regs 2)) y answered.left.scalar fits
+      let len : k + length (answer_code sc h.before place) ≡ k + 1 = ap (λ is. k + length is) same in
+      stores_light runs compose W E Outer z jumps straight held typing exprs fit objects gv hv hw g fs world calls answer c d a others st r waits k debt rest work place t x v 1 1 (k + 1) (units 0) (at_with k c d) (with_reg c x (c.regs 2)) a.facts h.behind r.sure (λ b q n e. answer_sure sc.in_registers (typed_of_expr sc.env place) (stored_facts (typed_of_expr sc.env place) a.facts) b q n (h.later.sure n e)) y h.there.left.scalar fits
       (record { is = same_reg c.regs x (c.regs 2) nz ∙ is ∙ sym canonical; above = λ q le ne. other_reg c.regs x (c.regs 2) q ne; memory = refl; special = refl })
-      go (omega arith) (omega arith) (subst (λ m. Block (code_text W E Outer z) a.function m debt rest (λ to left. Ahead (code_text W E Outer z) (a ∷ others) to left work)) len block) live
+      go (omega arith) (omega arith) (subst (λ m. Block (code_text W E Outer z) a.function h.behind m debt rest (λ fs to left. Goes (code_text W E Outer z) a others work fs to left)) len block) live

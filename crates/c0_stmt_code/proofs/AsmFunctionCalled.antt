@@ -25,10 +25,11 @@ use Rattle.c0_meaning.specs.World.{Cost, units, plus, Configuration, calls_ended
 use Rattle.c0_meaning.specs.Running.{Target, into, outward, Work, Stop, then_go, enter, call_function, deliver}
 use Rattle.c0_meaning.specs.TypedState.{types_of, Fits, AllFit, store_typing}
 use Rattle.c0_expr_code.specs.Scope.{Scope}
-use Rattle.c0_expr_code.specs.FrameSetting.{frame_setting}
+use Rattle.c0_expr_code.specs.FrameSetting.{FrameSetting, frame_setting}
 use Rattle.c0_asm_body.specs.Code.{asm_code}
 use Rattle.c0_asm_body.specs.Laws.{HoldInts, AsmRuns}
-use Rattle.c0_stmt_code.specs.Code.{large_code, end_code, stack_test, body_code, function_code}
+use Rattle.c0_stmt_code.specs.Code.{large_code, end_code, stack_test, body_code, function_code, first_facts}
+use Rattle.c0_stmt_code.proofs.FactsKept.{registers_forgotten}
 use Rattle.c0_stmt_code.specs.Setup.{Setup}
 use Rattle.c0_stmt_code.specs.Journey.{Led}
 use Rattle.c0_stmt_code.specs.Ahead.{Activation, Awaits, Ahead, AnswerIsLive, WaitingAreLive}
@@ -86,6 +87,9 @@ module _ (runs : RunLaws) (compose : RunsCompose) (W E : Type 0) (Outer : W → 
     abbrev low : ℕ
     low = end_of W E Outer z fs
 
+    abbrev its_setting : FrameSetting
+    its_setting = frame_setting sc (first_facts sc (length f.params))
+
     -- the answer is handed over, and the caller goes on where it waits
     handed : (l m : ℕ) (cost : Cost) (h0 : Configuration W E) (s0 : CodeState) (v : Value) (t : Ty) (c' : Contents) → Path runs compose W E Outer z jumps l m s0 (at_with to c' d) → cost.own ≤ 2048 * l → m ≤ 30 * cost.own → length calls ≡ calls_ended h0
         → c'.memory ≡ c.memory → c'.special ≡ c.special → ((x : ℕ) → 28 ≤ x → c'.regs x ≡ c.regs x) → Fits (shapes z.p.unit) (store_typing z.p.unit objects) t v → c'.regs 2 ≡ word_of_value W E Outer z objects v → ty_of f.answer ≡ t
@@ -114,6 +118,8 @@ module _ (runs : RunLaws) (compose : RunsCompose) (W E : Type 0) (Outer : W → 
                 return_at = ap (λ y. if y then c'.memory (end_of W E Outer z frames) else c'.regs 31) w.0.calls ∙ ap (λ m. m (end_of W E Outer z frames)) memory ∙ w.0.return_at;
                 frame_at = high 29 (omega arith) ∙ at_end ∙ ap (λ y. 4 * end_of W E Outer z y) (sym e) ∙ sym (ap (λ y. 4 * (if y then end_of W E Outer z frames else end_of W E Outer z (q ∷ frames))) w.0.in_frame);
                 variables = variables_same W E Outer z held objects b.live c.memory c'.regs c.memory c'.memory b.function q frames true w.0.in_frame w.0.is (λ x le lt. ap (λ m. m x) memory) w.0.variables;
+                registers = λ y. registers_forgotten (scope W E Outer z b.function) (bases W E Outer z objects (q ∷ frames)) b.facts c' w.0.forgotten;
+                sure = w.0.sure;
               },
               subst (λ m. Waiting W E Outer z objects m more frames) (sym memory) w.1,
             );
@@ -144,8 +150,8 @@ module _ (runs : RunLaws) (compose : RunsCompose) (W E : Type 0) (Outer : W → 
         by_target [] (q ∷ frames) w target work ah lv e = absurd w
         by_target (b ∷ more) [] w target work ah lv e = absurd w
 
-    test_some : 1 ≤ length (stack_test (frame_setting sc) 1)
-    test_some = omega (arith, length-append (large_code (frame_setting sc)) (end_code 1 (4 * sc.frame) ++ (Sltu 1 30 1 ∷ Beq 1 0 1 ∷ J (sc.exit StackOut) ∷ [])), length-append (end_code 1 (4 * sc.frame)) (Sltu 1 30 1 ∷ Beq 1 0 1 ∷ J (sc.exit StackOut) ∷ []))
+    test_some : 1 ≤ length (stack_test its_setting 1)
+    test_some = omega (arith, length-append (large_code its_setting) (end_code 1 (4 * sc.frame) ++ (Sltu 1 30 1 ∷ Beq 1 0 1 ∷ J (sc.exit StackOut) ∷ [])), length-append (end_code 1 (4 * sc.frame)) (Sltu 1 30 1 ∷ Beq 1 0 1 ∷ J (sc.exit StackOut) ∷ []))
 
     pub enters_asm : (l m k : ℕ) (cost : Cost) (h0 : Configuration W E) (s0 : CodeState) (bytes : List ℕ) (span : Span) (words : List ℕ) → f.body ≡ asm bytes span words → AreInts (types_of (map typed_of f.params)) → length (types_of (map typed_of f.params)) ≤ 4 → length (types_of (map typed_of f.params)) ≡ length f.params
         → ty_of f.answer ≡ ty.int → IsTrue (are_allowed_words words)
@@ -162,11 +168,11 @@ module _ (runs : RunLaws) (compose : RunsCompose) (W E : Type 0) (Outer : W → 
         cost2 : Cost
         cost2 = plus (plus cost (units 1)) (units 0)
 
-        code_at : CodeAt z.w k (stack_test (frame_setting sc) 1 ++ (asm_code (length f.params) words ++ (Jr 31 ∷ [])))
+        code_at : CodeAt z.w k (stack_test its_setting 1 ++ (asm_code (length f.params) words ++ (Jr 31 ∷ [])))
         code_at = subst (CodeAt z.w k) (ap (λ b. body_code sc (code_text W E Outer z).links (length f.params) b) e) there
 
-        test_at : CodeAt z.w k (stack_test (frame_setting sc) 1)
-        test_at = front z.w k (stack_test (frame_setting sc) 1) (asm_code (length f.params) words ++ (Jr 31 ∷ [])) code_at
+        test_at : CodeAt z.w k (stack_test its_setting 1)
+        test_at = front z.w k (stack_test its_setting 1) (asm_code (length f.params) words ++ (Jr 31 ∷ [])) code_at
 
         fails : z.p.stack < stack_words z.p.unit fs + words_of_frame (shapes z.p.unit) f → GoesOn W E Outer z debt h0 s0 (Stop cost2 (faulted StackOut) here)
         fails over =
@@ -174,7 +180,7 @@ module _ (runs : RunLaws) (compose : RunsCompose) (W E : Type 0) (Outer : W → 
             let sm = z.stack_small in
             let ws = z.sound.small in
             let sr = st.stack_room in
-            let r = (tested compose z.w z.sound straight jumps (frame_setting sc) low (z.a.stack + z.p.stack) 1 k c d st.idle (λ q. absurd (omega (arith, q))) (λ q. absurd (omega (arith, q))) at_end st.stack_end (omega (arith, sr)) (omega (arith, sf, ws)) (omega (arith, sm)) test_at).0 (omega (arith, over)) in
+            let r = (tested compose z.w z.sound straight jumps its_setting low (z.a.stack + z.p.stack) 1 k c d st.idle (λ q. absurd (omega (arith, q))) (λ q. absurd (omega (arith, q))) at_end st.stack_end (omega (arith, sr)) (omega (arith, sf, ws)) (omega (arith, sm)) test_at).0 (omega (arith, over)) in
             let way = on runs z.w l m 0 7 s0 (at_with k c d) (at_with (sc.exit StackOut) r.0 d) path (of runs z.w 7 _ _ r.2) in
             let le = way.high in (
               at_with (sc.exit StackOut) r.0 d,
@@ -188,9 +194,9 @@ module _ (runs : RunLaws) (compose : RunsCompose) (W E : Type 0) (Outer : W → 
             let sm = z.stack_small in
             let ws = z.sound.small in
             let sr = st.stack_room in
-            let t = (tested compose z.w z.sound straight jumps (frame_setting sc) low (z.a.stack + z.p.stack) 1 k c d st.idle (λ q. absurd (omega (arith, q))) (λ q. absurd (omega (arith, q))) at_end st.stack_end (omega (arith, sr)) (omega (arith, sf, ws)) (omega (arith, sm)) test_at).1 (omega (arith, fine)) in
-            let k1 : ℕ = k + length (stack_test (frame_setting sc) 1) in
-            let rest_at = back z.w k (stack_test (frame_setting sc) 1) (asm_code (length f.params) words ++ (Jr 31 ∷ [])) code_at in
+            let t = (tested compose z.w z.sound straight jumps its_setting low (z.a.stack + z.p.stack) 1 k c d st.idle (λ q. absurd (omega (arith, q))) (λ q. absurd (omega (arith, q))) at_end st.stack_end (omega (arith, sr)) (omega (arith, sf, ws)) (omega (arith, sm)) test_at).1 (omega (arith, fine)) in
+            let k1 : ℕ = k + length (stack_test its_setting 1) in
+            let rest_at = back z.w k (stack_test its_setting 1) (asm_code (length f.params) words ++ (Jr 31 ∷ [])) code_at in
             let hold = ints_hold objects c.regs t.0.regs 20 (types_of (map typed_of f.params)) args ints_ fits (λ x le. t.1.others x (λ q. absurd (omega (arith, q, le))) (λ q. absurd (omega (arith, q, le)))) (omega arith) arguments in
             let number : count args ≡ length f.params = hold.1 ∙ count_is in
             let body_at : CodeAt z.w k1 (asm_code (count args) words) = subst (λ q. CodeAt z.w k1 (asm_code q words)) (sym number) (front z.w k1 (asm_code (length f.params) words) (Jr 31 ∷ []) rest_at) in

@@ -25,22 +25,27 @@ use Rattle.c0_typed.specs.Leaf.{calls_in}
 use Rattle.c0_expr_code.specs.Scope.{Scope}
 use Rattle.c0_expr_code.specs.Bases.{Bases}
 use Rattle.c0_expr_code.specs.Relation.{KeepsRegisters}
-use Rattle.c0_stmt_code.specs.Code.{args_code, answer_code}
+use Rattle.c0_typed.specs.Typed.{typed_of_expr}
+use Rattle.c0_expr_code.specs.declared.facts.Facts.{Facts}
+use Rattle.c0_expr_code.specs.Facts.{facts_called}
+use Rattle.c0_stmt_code.specs.Behind.{all_followed}
+use Rattle.c0_stmt_code.specs.Code.{args_code, answer_code, answered_facts}
+use Rattle.c0_stmt_code.proofs.FactsBehind.{all_followed_grows, called_follows, within_itself}
 use Rattle.c0_stmt_code.specs.Setup.{Setup}
-use Rattle.c0_stmt_code.specs.Ahead.{Activation, body_env, Block, Awaits, Ahead, AnswerIsLive, WaitingAreLive}
+use Rattle.c0_stmt_code.specs.Ahead.{Activation, body_env, knowing, Block, Awaits, Ahead, AnswerIsLive, WaitingAreLive}
 use Rattle.c0_stmt_code.specs.Live.{any_reads, live_at_place}
 use Rattle.c0_stmt_code.specs.Standing.{code_text, scope, bases, end_of, unit_scope, AreIn, Waiting, FunctionRuns, ConfigurationStands}
 use Rattle.c0_stmt_code.proofs.PremisesFromBelow.{HeldStays, TypedStays, FunctionsAre}
 use Rattle.c0_stmt_code.proofs.RunStretches.{none, on, of, within}
-use Rattle.c0_stmt_code.proofs.WorkAsCode.{front, back, or_left, or_right}
+use Rattle.c0_stmt_code.proofs.WorkAsCode.{Goes, front, back, or_left, or_right}
 use Rattle.c0_stmt_code.proofs.LiveAroundSteps.{AreLiveBefore}
 use Rattle.c0_stmt_code.proofs.UnitsWithinNodes.{Within, values_within}
 use Rattle.c0_stmt_code.proofs.ValuesStay.{word_same}
-use Rattle.c0_stmt_code.proofs.FunctionsUnderWay.{rest_of, state_of, standing_at, Exprs}
+use Rattle.c0_stmt_code.proofs.FunctionsUnderWay.{its_facts, rest_of, state_of, standing_at, Exprs}
 use Rattle.c0_stmt_code.proofs.MemoryAccess.{other_reg, same_reg}
 use Rattle.c0_stmt_code.proofs.RegionsApart.{variables_same}
 use Rattle.c0_stmt_code.proofs.ValuesToPlaces.{its_exprs, its_ready}
-use Rattle.c0_stmt_code.proofs.ArgumentsToRegisters.{SoftComes, InRegisters, args_run}
+use Rattle.c0_stmt_code.proofs.ArgumentsToRegisters.{SoftComes, InRegisters, args_run, known_after}
 use Rattle.c0_stmt_code.proofs.StepSimulation.{GoesOn, Path, stands_on}
 
 -- words of registers that stay
@@ -111,25 +116,35 @@ module _ (runs : RunLaws) (compose : RunsCompose) (W E : Type 0) (Outer : W → 
     abbrev here : Configuration W E
     here = standing_at gv hv hw (g ∷ fs) world calls answer
 
+    -- what is known while the call runs, and once its answer has gone to its place
+    abbrev pub while_called : List CExpr → Facts
+    while_called args = facts_called (all_followed (map (typed_of_expr sc.env) args) a.facts)
+
+    abbrev pub behind_call : List CExpr → CExpr → Facts
+    behind_call args p = answered_facts sc (while_called args) p
+
     -- the function that runs waits from now on
-    now_waits : (c' : Contents) → c'.memory ≡ c.memory → Waiting W E Outer z objects c'.memory (a ∷ others) (g ∷ fs)
-    now_waits c' memory = (
+    now_waits : (args : List CExpr) (u : ℕ) (vs : Values) → values_of args here.state ≡ costs u (Ok vs) → (c' : Contents) → c'.memory ≡ c.memory → Waiting W E Outer z objects c'.memory (knowing a (while_called args) ∷ others) (g ∷ fs)
+    now_waits args u vs same c' memory = (
       record {
         is = r.is;
         in_frame = form;
         calls = its_calls;
         return_at = ap (λ m. m (end_of W E Outer z fs)) memory ∙ sym (ap (λ b. if b then c.memory (end_of W E Outer z fs) else c.regs 31) its_calls) ∙ r.return_at;
         variables = variables_same W E Outer z held objects a.live c.regs c'.memory c.memory c'.memory a.function g fs true form r.is (λ x le lt. ap (λ m. m x) memory) r.variables;
+        forgotten = within_itself (while_called args);
+        sure = (known_after compose z.w sc (body_env (code_text W E Outer z) a.function) (bases W E Outer z objects (g ∷ fs)) a.live here.state
+            (its_exprs runs compose W E Outer z jumps straight held typing exprs objects gv hv hw g fs world calls answer c d a others st r waits) a.facts args u vs c same (its_facts W E Outer z objects gv hv hw g fs c a r)).sure;
       },
       subst (λ m. Waiting W E Outer z objects m others fs) (sym memory) waits,
     )
 
     -- what has to be known of how a function is entered
-    abbrev Enters : ℕ → CFunction → Target → List Work → Type 0
-    Enters n f target work = (c' : Contents) (vs : Values) (l m : ℕ) (cost : Cost) → ConfigurationStands W E Outer z objects here c' d → Waiting W E Outer z objects c'.memory (a ∷ others) (g ∷ fs) → c'.regs 29 ≡ 4 * end_of W E Outer z (g ∷ fs)
+    abbrev Enters : Facts → ℕ → CFunction → Target → List Work → Type 0
+    Enters known n f target work = (c' : Contents) (vs : Values) (l m : ℕ) (cost : Cost) → ConfigurationStands W E Outer z objects here c' d → Waiting W E Outer z objects c'.memory (knowing a known ∷ others) (g ∷ fs) → c'.regs 29 ≡ 4 * end_of W E Outer z (g ∷ fs)
         → (to : ℕ) → c'.regs 31 ≡ 4 * to → AllFit (shapes z.p.unit) (store_typing z.p.unit objects) (types_of (map typed_of f.params)) vs → AreIn (unit_scope z.p.unit) (bases W E Outer z objects []) c'.regs 20 vs
-        → Awaits (code_text W E Outer z) (a ∷ others) to debt (ty_of f.answer) target work (λ acts at left. Ahead (code_text W E Outer z) acts at left work)
-        → AnswerIsLive (a ∷ others) target work (λ below. WaitingAreLive below work)
+        → Awaits (code_text W E Outer z) (knowing a known ∷ others) to debt (ty_of f.answer) target work (λ acts at left. Ahead (code_text W E Outer z) acts at left work)
+        → AnswerIsLive (knowing a known ∷ others) target work (λ below. WaitingAreLive below work)
         → Path runs compose W E Outer z jumps l m (at_with k c d) (at_with ((code_text W E Outer z).links.function n) c' d) → cost.own + 9 ≤ 2048 * (l + 1) → m ≤ 30 * cost.own → length calls ≡ calls_ended here
         → GoesOn W E Outer z debt here (at_with k c d) (call_function z.p cost n vs target work here)
 
@@ -142,21 +157,21 @@ module _ (runs : RunLaws) (compose : RunsCompose) (W E : Type 0) (Outer : W → 
     are_out regs i (t ∷ ts) empty f h = absurd f
 
     -- a call of a function
-    pub calls_function : (n : ℕ) (f : CFunction) (args : List CExpr) (p : CExpr) (rest : CStmts) (work : List Work) → slice_get z.p.unit.functions n ≡ Some f → Enters n f (into p rest) work
+    pub calls_function : (n : ℕ) (f : CFunction) (args : List CExpr) (p : CExpr) (rest : CStmts) (work : List Work) → slice_get z.p.unit.functions n ≡ Some f → Enters (while_called args) n f (into p rest) work
         → AreNumberedGiven (body_env (code_text W E Outer z) a.function) args (types_of (map typed_of f.params)) → length args ≤ 8 → length (types_of (map typed_of f.params)) ≤ 8 → IsNumberedLeft (body_env (code_text W E Outer z) a.function) p (ty_of f.answer) → call_need p args ≤ MAX_NEED → nodes p + args_nodes args + 1 ≤ 2000
-        → CodeAt z.w k (args_code sc args 0 ++ (Jal ((code_text W E Outer z).links.function n) ∷ answer_code sc p))
-        → Block (code_text W E Outer z) a.function (k + length (args_code sc args 0 ++ (Jal ((code_text W E Outer z).links.function n) ∷ answer_code sc p))) debt rest (λ to left. Ahead (code_text W E Outer z) (a ∷ others) to left work)
+        → CodeAt z.w k (args_code sc a.facts args 0 ++ (Jal ((code_text W E Outer z).links.function n) ∷ answer_code sc (facts_called a.facts) p))
+        → Block (code_text W E Outer z) a.function (behind_call args p) (k + length (args_code sc a.facts args 0 ++ (Jal ((code_text W E Outer z).links.function n) ∷ answer_code sc (facts_called a.facts) p))) debt rest (λ fs to left. Goes (code_text W E Outer z) a others work fs to left)
         → AreLiveBefore a.live others (λ m b. any_reads args m || live_at_place p m b) rest work
         → GoesOn W E Outer z debt here (at_with k c d) (then_go (units 1) here (values_of args here.state) (λ cost vs. call_function z.p cost n vs (into p rest) work here))
     calls_function n f args p rest work is enters given count types left deep few code block live =
         let ex = its_exprs runs compose W E Outer z jumps straight held typing exprs objects gv hv hw g fs world calls answer c d a others st r waits in
-        let rd = its_ready runs compose W E Outer z jumps straight held typing exprs objects gv hv hw g fs world calls answer c d a others st r waits in
+        let rd = its_ready runs compose W E Outer z jumps straight held typing exprs objects gv hv hw g fs world calls answer c d a others st r waits a.facts (its_facts W E Outer z objects gv hv hw g fs c a r) in
         let index : ℕ = (code_text W E Outer z).links.function n in
-        let k1 : ℕ = k + length (args_code sc args 0) in
-        let jal_at = back z.w k (args_code sc args 0) (Jal ((code_text W E Outer z).links.function n) ∷ answer_code sc p) code in
-        let run = args_run compose z.w sc (body_env (code_text W E Outer z) a.function) (bases W E Outer z objects (g ∷ fs)) a.live (state_of gv hv hw (g ∷ fs)) d ex form st.idle args (types_of (map typed_of f.params)) 0 k c rd (λ m q. live.0 m (or_left (any_reads args m) _ q)) given (functions.scalars n f is) (omega (arith, deep)) (omega (arith, few)) (omega (arith, count))
-        (front z.w k (args_code sc args 0) (Jal ((code_text W E Outer z).links.function n) ∷ answer_code sc p) code) in
-        let len : k + length (args_code sc args 0 ++ (Jal ((code_text W E Outer z).links.function n) ∷ answer_code sc p)) ≡ k1 + 1 + length (answer_code sc p) = omega (arith, length-append (args_code sc args 0) (Jal ((code_text W E Outer z).links.function n) ∷ answer_code sc p)) in
+        let k1 : ℕ = k + length (args_code sc a.facts args 0) in
+        let jal_at = back z.w k (args_code sc a.facts args 0) (Jal ((code_text W E Outer z).links.function n) ∷ answer_code sc (facts_called a.facts) p) code in
+        let run = args_run compose z.w sc (body_env (code_text W E Outer z) a.function) (bases W E Outer z objects (g ∷ fs)) a.live (state_of gv hv hw (g ∷ fs)) d ex form st.idle a.facts args (types_of (map typed_of f.params)) 0 k c rd (λ m q. live.0 m (or_left (any_reads args m) _ q)) given (functions.scalars n f is) (omega (arith, deep)) (omega (arith, few)) (omega (arith, count))
+        (front z.w k (args_code sc a.facts args 0) (Jal ((code_text W E Outer z).links.function n) ∷ answer_code sc (facts_called a.facts) p) code) in
+        let len : k + length (args_code sc a.facts args 0 ++ (Jal ((code_text W E Outer z).links.function n) ∷ answer_code sc (facts_called a.facts) p)) ≡ k1 + 1 + length (answer_code sc (facts_called a.facts) p) = omega (arith, length-append (args_code sc a.facts args 0) (Jal ((code_text W E Outer z).links.function n) ∷ answer_code sc (facts_called a.facts) p)) in
         then_soft (GoesOn W E Outer z debt here (at_with k c d)) 0 0 debt 0 (args_nodes args) (units 1) here here (at_with k c d) a.function k k1 c d objects (InRegisters compose z.w sc (bases W E Outer z objects (g ∷ fs)) 0 (types_of (map typed_of f.params)) c) (values_of args here.state) (λ cost vs. call_function z.p cost n vs (into p rest) work here)
         (none runs z.w (at_with k c d)) (omega arith) (omega arith) st (values_within args here.state) run (λ cost f h stop. stop)
         (λ u vs c1 same least most q path.
@@ -166,11 +181,20 @@ module _ (runs : RunLaws) (compose : RunsCompose) (W E : Type 0) (Outer : W → 
         let soft = q.soft in
         enters (with_reg c1 31 (4 * (k1 + 1))) vs (0 + 0) (0 + 16 * u + 1) (plus (units 1) (units u))
         (stands_soft objects here c (with_reg c1 31 (4 * (k1 + 1))) d soft.memory soft.special (other_reg c1.regs 31 (4 * (k1 + 1)) 28 (λ q. absurd (omega (arith, q))) ∙ soft.high 28 (omega arith)) (other_reg c1.regs 31 (4 * (k1 + 1)) 30 (λ q. absurd (omega (arith, q))) ∙ soft.high 30 (omega arith)) st)
-        (now_waits (with_reg c1 31 (4 * (k1 + 1))) soft.memory)
+        (now_waits args u vs same (with_reg c1 31 (4 * (k1 + 1))) soft.memory)
         (other_reg c1.regs 31 (4 * (k1 + 1)) 29 (λ q. absurd (omega (arith, q))) ∙ soft.high 29 (omega arith) ∙ r.frame_at ∙ ap (λ b. 4 * (if b then end_of W E Outer z fs else end_of W E Outer z (g ∷ fs))) form)
         (k1 + 1) (same_reg c1.regs 31 (4 * (k1 + 1)) (λ q. absurd (omega (arith, q)))) q.fits
         (are_moved (unit_scope z.p.unit) (bases W E Outer z objects []) c1.regs (with_reg c1 31 (4 * (k1 + 1))).regs 20 (types_of (map typed_of f.params)) (shapes z.p.unit) (store_typing z.p.unit objects) vs q.fits (omega (arith, types)) (λ x lt. other_reg c1.regs 31 (4 * (k1 + 1)) x (λ q. absurd (omega (arith, q, lt))))
-        (are_out c1.regs 20 (types_of (map typed_of f.params)) vs q.fits q.are))
-        (record { left = left; shallow = omega (arith, deep); few = omega (arith, few) }, jal_at.1, subst (λ y. Block (code_text W E Outer z) a.function y debt rest (λ to left. Ahead (code_text W E Outer z) (a ∷ others) to left work)) len block)
+        (are_out c1.regs 20 (types_of (map typed_of f.params)) vs q.fits q.are)) (
+          record {
+            there = record { left = left; shallow = omega (arith, deep); few = omega (arith, few) };
+            before = facts_called a.facts;
+            fewer = called_follows a.facts (all_followed (map (typed_of_expr sc.env) args) a.facts) (all_followed_grows (map (typed_of_expr sc.env) args) a.facts);
+            behind = behind_call args p;
+            later = within_itself (behind_call args p);
+            code = jal_at.1;
+          },
+          subst (λ y. Block (code_text W E Outer z) a.function (behind_call args p) y debt rest (λ fs to left. Goes (code_text W E Outer z) a others work fs to left)) len block,
+        )
         ((λ m q. live.0 m (or_right (any_reads args m) _ q)), live.1)
         way (omega (arith, most, few)) (omega arith) (omega arith))

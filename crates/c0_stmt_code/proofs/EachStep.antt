@@ -26,9 +26,15 @@ use Rattle.c0_expr_code.specs.Scope.{Scope}
 use Rattle.c0_expr_code.specs.Bases.{words_of_all}
 use Rattle.c0_expr_code.specs.Laws.{IsOpened, AreasHold}
 use Rattle.c0_expr_code.specs.Code.{made}
-use Rattle.c0_stmt_code.specs.Code.{args_code, answer_code, stored_code, callee_index, stmt_code, stmts_code}
+use Rattle.c0_typed.specs.Typed.{typed_of_expr, typed_of_stmts}
+use Rattle.c0_expr_code.specs.declared.facts.Facts.{Facts}
+use Rattle.c0_expr_code.specs.Facts.{facts_called}
+use Rattle.c0_stmt_code.specs.Behind.{all_followed}
+use Rattle.c0_stmt_code.specs.Code.{args_code, answer_code, stored_code, callee_index, stmt_code, stmts_code, behind_stmt, told_facts, turn_facts}
+use Rattle.c0_stmt_code.proofs.FactsBehind.{changes_shrink, turns_stay}
+use Rattle.c0_stmt_code.proofs.WorkAsCode.{Goes}
 use Rattle.c0_stmt_code.specs.Setup.{Setup}
-use Rattle.c0_stmt_code.specs.Ahead.{Activation, body_env, StatementStands, Block, Awaits, Ahead, AnswerIsLive, WaitingAreLive, AllAreLive}
+use Rattle.c0_stmt_code.specs.Ahead.{Activation, body_env, knowing, loop_body, StatementStands, Block, Awaits, Ahead, AnswerIsLive, WaitingAreLive, AllAreLive}
 use Rattle.c0_stmt_code.specs.Live.{is_live}
 use Rattle.c0_stmt_code.proofs.LiveAroundSteps.{AreLiveBefore}
 use Rattle.c0_stmt_code.specs.Standing.{code_text, scope, bases, end_of, unit_scope, word_of_value, AreIn, Waiting, FunctionRuns, UnderWay, ConfigurationStands, Simulated, StepIs}
@@ -36,7 +42,7 @@ use Rattle.c0_stmt_code.proofs.PremisesFromBelow.{HeldStays, TypedStays, Functio
 use Rattle.c0_stmt_code.proofs.RunStretches.{Stretch, none as no_way, away, within}
 use Rattle.c0_stmt_code.proofs.WorkAsCode.{skipped}
 use Rattle.c0_stmt_code.proofs.ShortStatements.{stmts_length}
-use Rattle.c0_stmt_code.proofs.FunctionsUnderWay.{standing_at, Exprs}
+use Rattle.c0_stmt_code.proofs.FunctionsUnderWay.{standing_at, Exprs, under_fewer}
 use Rattle.c0_stmt_code.proofs.ChoicesAndLoops.{assigns, chooses, turns}
 use Rattle.c0_stmt_code.proofs.RegisterAssigned.{variable_is, assigns_light}
 use Rattle.c0_stmt_code.proofs.AnswersToRegisters.{finishes_light}
@@ -80,12 +86,12 @@ primitive_from [] i c e = absurd (cc)
 primitive_from (p ∷ rows) zero c e = let q : primitive_signature p ≡ c = cc in (p, refl, q)
 primitive_from (p ∷ rows) (suc i) c e = primitive_from rows i c e
 
-answer_some : (sc : Scope) (p : CExpr) → 1 ≤ length (answer_code sc p)
-answer_some sc p = by_stands (made sc p).stands
+answer_some : (sc : Scope) (known : Facts) (p : CExpr) → 1 ≤ length (answer_code sc known p)
+answer_some sc known p = by_register (made sc known p).register
   where
-    by_stands : (o : Option ℕ) → 1 ≤ length (stored_code 2 8 o (made sc p).place)
-    by_stands (Some x) = omega arith
-    by_stands None = let n = access_longer (λ b k. Sw 2 b k) 8 ((made sc p).place 8) in omega (arith, n)
+    by_register : (o : Option ℕ) → 1 ≤ length (stored_code 2 8 o (made sc known p).place)
+    by_register (Some x) = omega arith
+    by_register None = let n = access_longer (λ b k. Sw 2 b k) 8 ((made sc known p).place 8) in omega (arith, n)
 
 given_length : (env : Env) (es : List CExpr) (ts : List Ty) → AreNumberedGiven env es ts → length es ≡ length ts
 given_length env [] [] none = refl
@@ -129,22 +135,22 @@ module _ (runs : RunLaws) (compose : RunsCompose) (W E : Type 0) (Outer : W → 
     abbrev here : Configuration W E
     here = standing_at gv hv hw (g ∷ fs) world calls answer
 
-    abbrev At : ℕ → CStmts → List Work → Type 0
-    At k rest work = Block (code_text W E Outer z) a.function k debt rest (λ to left. Ahead (code_text W E Outer z) (a ∷ others) to left work)
+    abbrev At : Facts → ℕ → CStmts → List Work → Type 0
+    At known k rest work = Block (code_text W E Outer z) a.function known k debt rest (λ fs to left. Goes (code_text W E Outer z) a others work fs to left)
 
     -- a statement
-    states : (t : CStmt) (rest : CStmts) (work : List Work) → StatementStands (code_text W E Outer z) a.function k t → At (k + length (stmt_code sc (code_text W E Outer z).links t)) rest work → AreLiveBefore a.live others (λ n b. is_live t n b) rest work
+    states : (t : CStmt) (rest : CStmts) (work : List Work) → StatementStands (code_text W E Outer z) a.function a.facts k t → At (behind_stmt sc a.facts t) (k + length (stmt_code sc a.facts (code_text W E Outer z).links t)) rest work → AreLiveBefore a.live others (λ n b. is_live t n b) rest work
         → StepIs W E Outer z debt (act_on t rest) here (at_with k c d) (act_statement z.p t rest work here)
     states (assign s p v) rest work stands block live = goes_on W E Outer z debt (act_on (assign s p v) rest) here (at_with k c d) (act_statement z.p (assign s p v) rest work here) (by_rule stands.typed)
       where
         by_rule : IsNumbered (body_env (code_text W E Outer z) a.function) (assign s p v) → GoesOn W E Outer z debt here (at_with k c d) (act_statement z.p (assign s p v) rest work here)
-        by_rule (an_assignment {t = t} left given deep) = by_stands (made sc p).stands refl
+        by_rule (an_assignment {t = t} left given deep) = by_stands (made sc a.facts p).register refl
           where
-            by_stands : (o : Option ℕ) → (made sc p).stands ≡ o → GoesOn W E Outer z debt here (at_with k c d) (act_statement z.p (assign s p v) rest work here)
+            by_stands : (o : Option ℕ) → (made sc a.facts p).register ≡ o → GoesOn W E Outer z debt here (at_with k c d) (act_statement z.p (assign s p v) rest work here)
             by_stands None e = let few = stands.few in
                 assigns runs compose W E Outer z jumps straight held typing exprs fit objects gv hv hw g fs world calls answer c d a others st r waits k debt rest work p v t left given deep (omega (arith, few)) e stands.code block live
             by_stands (Some x) e = let few = stands.few in
-                assigns_light runs compose W E Outer z jumps straight held typing exprs fit objects gv hv hw g fs world calls answer c d a others st r waits k debt rest work p v t x (variable_is (body_env (code_text W E Outer z) a.function) sc x p t left.typed left.place e) left given deep (omega (arith, few)) e stands.code block live
+                assigns_light runs compose W E Outer z jumps straight held typing exprs fit objects gv hv hw g fs world calls answer c d a others st r waits k debt rest work p v t x (variable_is (body_env (code_text W E Outer z) a.function) sc a.facts x p t left.typed left.place e) left given deep (omega (arith, few)) e stands.code block live
     states (choice s t x y) rest work stands block live = goes_on W E Outer z debt (act_on (choice s t x y) rest) here (at_with k c d) (act_statement z.p (choice s t x y) rest work here) (by_rule stands.typed)
       where
         by_rule : IsNumbered (body_env (code_text W E Outer z) a.function) (choice s t x y) → GoesOn W E Outer z debt here (at_with k c d) (act_statement z.p (choice s t x y) rest work here)
@@ -155,10 +161,11 @@ module _ (runs : RunLaws) (compose : RunsCompose) (W E : Type 0) (Outer : W → 
         by_rule : IsNumbered (body_env (code_text W E Outer z) a.function) (loop s t b) → GoesOn W E Outer z debt here (at_with k c d) (act_statement z.p (loop s t b) rest work here)
         by_rule (a_loop test tb) =
             let few = stands.few in
-            let l = stmts_length sc (code_text W E Outer z).links (fit a.function) b in
-            let go = away runs z.w 1 (at_with k c d) (at_with (k + 1 + length (stmts_code sc (code_text W E Outer z).links b)) c d) (λ q. absurd (omega (arith, q))) (skipped runs compose z.w jumps k (length (stmts_code sc (code_text W E Outer z).links b)) c d st.idle (omega (arith, l, few)) stands.code.0) in
-            turns runs compose W E Outer z jumps straight held typing exprs fit objects gv hv hw g fs world calls answer c d a others st r waits k debt rest work k 1 2 (at_with k c d) t b
-            (record { test = test; body_typed = tb; few = omega (arith, few); free = stands.free; calls = stands.calls; code = stands.code }) block (omega arith) (omega arith) (omega arith) live (within runs z.w 1 1 0 1 _ _ (omega arith) (omega arith) go)
+            let l = stmts_length sc (code_text W E Outer z).links (fit a.function) (told_facts sc (turn_facts sc a.facts b) t true) b in
+            let go = away runs z.w 1 (at_with k c d) (at_with (k + 1 + length (stmts_code sc (told_facts sc (turn_facts sc a.facts b) t true) (code_text W E Outer z).links b)) c d) (λ q. absurd (omega (arith, q))) (skipped runs compose z.w jumps k (length (stmts_code sc (told_facts sc (turn_facts sc a.facts b) t true) (code_text W E Outer z).links b)) c d st.idle (omega (arith, l, few)) stands.code.0) in
+            let under = under_fewer W E Outer z objects c a others (g ∷ fs) (turn_facts sc a.facts b) (changes_shrink (typed_of_stmts sc.env b) a.facts) (r, waits) in
+            turns runs compose W E Outer z jumps straight held typing exprs fit objects gv hv hw g fs world calls answer c d (knowing a (turn_facts sc a.facts b)) others st under.0 under.1 k debt rest work k 1 2 (at_with k c d) t b
+            (record { test = test; body_typed = tb; few = omega (arith, few); free = stands.free; calls = stands.calls; stays = turns_stay (typed_of_stmts sc.env b) a.facts; code = stands.code }) block (omega arith) (omega arith) (omega arith) live (within runs z.w 1 1 0 1 _ _ (omega arith) (omega arith) go)
     states (new s p t ts) rest work stands block live = goes_on W E Outer z debt (act_on (new s p t ts) rest) here (at_with k c d) (act_statement z.p (new s p t ts) rest work here) (by_rule stands.typed)
       where
         by_rule : IsNumbered (body_env (code_text W E Outer z) a.function) (new s p t ts) → GoesOn W E Outer z debt here (at_with k c d) (act_statement z.p (new s p t ts) rest work here)
@@ -188,10 +195,10 @@ module _ (runs : RunLaws) (compose : RunsCompose) (W E : Type 0) (Outer : W → 
                 goes_on W E Outer z debt (act_on (call s p cs callee args) rest) here (at_with k c d) (act_statement z.p (call s p cs callee args) rest work here)
                 (subst (λ kd. GoesOn W E Outer z debt here (at_with k c d) (then_go (units 1) here (values_of args here.state) (λ cost vs. call_with z.p cost kd callee.number vs (into p rest) work here))) (sym e)
                 (calls_function runs compose W E Outer z jumps straight held typing functions exprs objects gv hv hw g fs world calls answer c d a others st r waits (in_frame sc.in_registers refl stands.free) (stands.calls refl) k debt callee.number q.0 args p rest work q.1
-                (λ c2 vs l m cost st2 w2 at2 to ret fits are ahead lv path low high en. begins objects gv hv hw (g ∷ fs) world calls answer c2 d (a ∷ others) st2 w2 at2 callee.number to debt q.0 q.1 vs (into p rest) work ret fits are ahead lv l m cost here (at_with k c d) path low high en)
+                (λ c2 vs l m cost st2 w2 at2 to ret fits are ahead lv path low high en. begins objects gv hv hw (g ∷ fs) world calls answer c2 d (knowing a (facts_called (all_followed (map (typed_of_expr sc.env) args) a.facts)) ∷ others) st2 w2 at2 callee.number to debt q.0 q.1 vs (into p rest) work ret fits are ahead lv l m cost here (at_with k c d) path low high en)
                 given2 (omega (arith, count, size, many)) (omega (arith, size, many)) left2 deep (omega (arith, few))
-                (subst (λ i. CodeAt z.w k (args_code sc args 0 ++ (Jal i ∷ answer_code sc p))) index stands.code)
-                (subst (λ i. At (k + length (args_code sc args 0 ++ (Jal i ∷ answer_code sc p))) rest work) index block) live))
+                (subst (λ i. CodeAt z.w k (args_code sc a.facts args 0 ++ (Jal i ∷ answer_code sc (facts_called a.facts) p))) index stands.code)
+                (subst (λ i. At (behind_stmt sc a.facts (call s p cs callee args)) (k + length (args_code sc a.facts args 0 ++ (Jal i ∷ answer_code sc (facts_called a.facts) p))) rest work) index block) live))
             by_kind Primitive e =
                 let is = subst (λ kd. callee_at (body_env (code_text W E Outer z) a.function) kd callee.number ≡ Some signature) e found in
                 let q = primitive_from z.table callee.number signature is in
@@ -204,9 +211,9 @@ module _ (runs : RunLaws) (compose : RunsCompose) (W E : Type 0) (Outer : W → 
                 let index : callee_index (code_text W E Outer z).links callee.kind callee.number ≡ (code_text W E Outer z).links.primitive callee.number = ap (λ kd. callee_index (code_text W E Outer z).links kd callee.number) e in
                 subst (λ kd. StepIs W E Outer z debt (act_on (call s p cs callee args) rest) here (at_with k c d) (then_go (units 1) here (values_of args here.state) (λ cost vs. call_with z.p cost kd callee.number vs (into p rest) work here))) (sym e)
                 (calls_primitive runs compose W E Outer z jumps straight held typing exprs objects gv hv hw g fs world calls answer c d a others st r waits (in_frame sc.in_registers refl stands.free) (stands.calls refl) k debt callee.number q.0 args p rest work q.1
-                given2 (omega (arith, count, size, many)) (act_on (call s p cs callee args) rest) (λ u vs same. (e, refl, (u, same))) left2 deep (omega (arith, few)) (answer_some sc p)
-                (subst (λ i. CodeAt z.w k (args_code sc args 0 ++ (Jal i ∷ answer_code sc p))) index stands.code)
-                (subst (λ i. At (k + length (args_code sc args 0 ++ (Jal i ∷ answer_code sc p))) rest work) index block) live)
+                given2 (omega (arith, count, size, many)) (act_on (call s p cs callee args) rest) (λ u vs same. (e, refl, (u, same))) left2 deep (omega (arith, few)) (answer_some sc (facts_called a.facts) p)
+                (subst (λ i. CodeAt z.w k (args_code sc a.facts args 0 ++ (Jal i ∷ answer_code sc (facts_called a.facts) p))) index stands.code)
+                (subst (λ i. At (behind_stmt sc a.facts (call s p cs callee args)) (k + length (args_code sc a.facts args 0 ++ (Jal i ∷ answer_code sc (facts_called a.facts) p))) rest work) index block) live)
             by_kind Unresolved e = let is = subst (λ kd. callee_at (body_env (code_text W E Outer z) a.function) kd callee.number ≡ Some signature) e found in absurd (cc)
             by_kind Struct e = let is = subst (λ kd. callee_at (body_env (code_text W E Outer z) a.function) kd callee.number ≡ Some signature) e found in absurd (cc)
             by_kind Field e = let is = subst (λ kd. callee_at (body_env (code_text W E Outer z) a.function) kd callee.number ≡ Some signature) e found in absurd (cc)
@@ -217,7 +224,7 @@ module _ (runs : RunLaws) (compose : RunsCompose) (W E : Type 0) (Outer : W → 
     acts : (item : Work) (work : List Work) → Ahead (code_text W E Outer z) (a ∷ others) k debt (item ∷ work) → AllAreLive (a ∷ others) (item ∷ work) → StepIs W E Outer z debt item here (at_with k c d) (work_step z.p item work here)
     acts (act_on t rest) work ahead live = states t rest work ahead.0 ahead.1 live
     acts (again t body rest) work ahead live =
-        let path : Path runs compose W E Outer z jumps 0 0 (at_with k c d) (at_with (ahead.0 + 1 + length (stmts_code sc (code_text W E Outer z).links body)) c d) = subst (λ y. Stretch runs z.w 0 0 (at_with k c d) (at_with y c d)) ahead.2 (no_way runs z.w (at_with k c d)) in
+        let path : Path runs compose W E Outer z jumps 0 0 (at_with k c d) (at_with (ahead.0 + 1 + length (loop_body (code_text W E Outer z) a.function a.facts t body)) c d) = subst (λ y. Stretch runs z.w 0 0 (at_with k c d) (at_with y c d)) ahead.2 (no_way runs z.w (at_with k c d)) in
         goes_on W E Outer z debt (again t body rest) here (at_with k c d) (work_step z.p (again t body rest) work here)
         (turns runs compose W E Outer z jumps straight held typing exprs fit objects gv hv hw g fs world calls answer c d a others st r waits k debt rest work ahead.0 0 1 (at_with k c d) t body ahead.1 ahead.3 (omega arith) (omega arith) (omega arith) live path)
     acts (leave result target) work ahead live = goes_on W E Outer z debt (leave result target) here (at_with k c d) (work_step z.p (leave result target) work here) (by_form sc.in_registers refl)
@@ -242,12 +249,12 @@ module _ (runs : RunLaws) (compose : RunsCompose) (W E : Type 0) (Outer : W → 
       → Awaits (code_text W E Outer z) under_way k debt t (into place rest) work (λ others to left. Ahead (code_text W E Outer z) others to left work) → AnswerIsLive under_way (into place rest) work (λ below. WaitingAreLive below work)
       → GoesOn W E Outer z debt (standing_at gv hv hw frames world calls answer) (at_with k c d) (work_step z.p (finish place v rest) work (standing_at gv hv hw frames world calls answer))
   finish_parts (g ∷ fs) objects gv hv hw world calls answer c d (a ∷ others) k debt place v rest work t st under fits is ahead live =
-      by_stands (made (scope W E Outer z a.function) place).stands refl
+      by_register (made (scope W E Outer z a.function) ahead.0.before place).register refl
     where
-      by_stands : (o : Option ℕ) → (made (scope W E Outer z a.function) place).stands ≡ o → GoesOn W E Outer z debt (standing_at gv hv hw (g ∷ fs) world calls answer) (at_with k c d) (work_step z.p (finish place v rest) work (standing_at gv hv hw (g ∷ fs) world calls answer))
-      by_stands None e = finishes runs compose W E Outer z jumps straight held typing functions exprs fit objects gv hv hw g fs world calls answer c d a others st under.0 under.1 k debt place v rest work t fits is e ahead.0 ahead.1 ahead.2 live
-      by_stands (Some x) e = let left = ahead.0.left in
-          finishes_light runs compose W E Outer z jumps straight held typing exprs fit opened objects gv hv hw g fs world calls answer c d a others st under.0 under.1 k debt rest work place v t x fits is (variable_is (body_env (code_text W E Outer z) a.function) (scope W E Outer z a.function) x place t left.typed left.place e) e ahead.0 ahead.1 ahead.2 live
+      by_register : (o : Option ℕ) → (made (scope W E Outer z a.function) ahead.0.before place).register ≡ o → GoesOn W E Outer z debt (standing_at gv hv hw (g ∷ fs) world calls answer) (at_with k c d) (work_step z.p (finish place v rest) work (standing_at gv hv hw (g ∷ fs) world calls answer))
+      by_register None e = finishes runs compose W E Outer z jumps straight held typing functions exprs fit objects gv hv hw g fs world calls answer c d a others st under.0 under.1 k debt place v rest work t fits is ahead.0 e ahead.1 live
+      by_register (Some x) e = let left = ahead.0.there.left in
+          finishes_light runs compose W E Outer z jumps straight held typing exprs fit opened objects gv hv hw g fs world calls answer c d a others st under.0 under.1 k debt rest work place v t x fits is (variable_is (body_env (code_text W E Outer z) a.function) (scope W E Outer z a.function) ahead.0.before x place t left.typed left.place e) ahead.0 e ahead.1 live
   finish_parts [] objects gv hv hw world calls answer c d [] k debt place v rest work t st under fits is ahead live = absurd under
   finish_parts [] objects gv hv hw world calls answer c d (a ∷ others) k debt place v rest work t st under fits is ahead live = absurd under
   finish_parts (g ∷ fs) objects gv hv hw world calls answer c d [] k debt place v rest work t st under fits is ahead live = absurd under

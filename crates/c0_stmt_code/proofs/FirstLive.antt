@@ -29,6 +29,11 @@ scalars_before structs [] n t s e = absurd (cc)
 scalars_before structs (u ∷ ts) zero t s e = (refl, omega arith)
 scalars_before structs (u ∷ ts) (suc n) t s e = let r = scalars_before structs ts n t s.1 e in let a = r.0 in let b = r.1 in let w = one_word structs u s.0 in (omega (arith, a, w), omega (arith, b))
 
+pub params_before : (structs : List Shape) (ts us : List Ty) (n : ℕ) → AllScalar ts → n < length ts → words_before structs (ts ++ us) n ≡ n
+params_before structs [] us n s lt = absurd (omega (arith, lt))
+params_before structs (u ∷ ts) us zero s lt = refl
+params_before structs (u ∷ ts) us (suc n) s lt = let a = params_before structs ts us n s.1 (omega (arith, lt)) in let w = one_word structs u s.0 in omega (arith, a, w)
+
 scalar_at : (ts : List Ty) (n : ℕ) (t : Ty) → AllScalar ts → slice_get ts n ≡ Some t → IsTrue (is_scalar t)
 scalar_at [] n t s e = absurd (cc)
 scalar_at (u ∷ ts) zero t s e = let q : u ≡ t = cc in subst (λ v. IsTrue (is_scalar v)) q s.0

@@ -21,20 +21,25 @@ use Rattle.c0_meaning.specs.Running.{Target, Work, leave, push, Go, Stop, then_g
 use Rattle.c0_meaning.specs.TypedState.{types_of, AllFit, store_typing, IsTypedWith, variable_types}
 use Rattle.c0_typed.specs.Leaf.{are_calling, are_free_of_calls, calls_in, is_leaf}
 use Rattle.c0_expr_code.specs.Scope.{Scope}
-use Rattle.c0_expr_code.specs.FrameSetting.{frame_setting}
+use Rattle.c0_meaning.specs.Sizes.{words_before}
+use Rattle.c0_expr_code.specs.declared.facts.Facts.{Facts}
+use Rattle.c0_expr_code.specs.Facts.{SureHold}
+use Rattle.c0_expr_code.specs.FrameSetting.{FrameSetting, frame_setting}
+use Rattle.c0_expr_code.specs.Relation.{RegistersHold}
+use Rattle.c0_stmt_code.proofs.FactsBehind.{start_answer, start_params, start_sure, within_itself}
 use Rattle.std.specs.List.{list_all}
 use Rattle.c0_stmt_code.proofs.RegisterFrames.{each_scalar, scalars_behind, clears, saves_light}
-use Rattle.c0_expr_code.specs.Bases.{Bases, words_of_all, RegionHeld, LocalsHeld}
-use Rattle.c0_stmt_code.specs.Code.{large_code, end_code, body_code, register_entry, clear_code, stack_test, save_code, params_code, locals_code, frame_entry, return_code, stmts_code, function_code}
+use Rattle.c0_expr_code.specs.Bases.{Bases, words_of_all, locals_start, RegionHeld, LocalsHeld}
+use Rattle.c0_stmt_code.specs.Code.{large_code, end_code, body_code, register_entry, clear_code, stack_test, save_code, params_code, locals_code, frame_entry, return_code, stmts_code, function_code, behind_stmts, first_facts}
 use Rattle.c0_stmt_code.specs.Setup.{Setup}
 use Rattle.c0_stmt_code.specs.Ahead.{Activation, Awaits, Ahead, AnswerIsLive, WaitingAreLive}
 use Rattle.c0_stmt_code.specs.Live.{are_scalar, is_cleared}
 use Rattle.c0_stmt_code.proofs.LiveAroundSteps.{AreLiveBehind}
-use Rattle.c0_stmt_code.proofs.FirstLive.{first_words, words_below, words_above, first_live, first_same}
+use Rattle.c0_stmt_code.proofs.FirstLive.{first_words, words_below, words_above, first_live, first_same, params_before}
 use Rattle.c0_stmt_code.specs.Standing.{code_text, scope, bases, end_of, unit_scope, AreIn, VariablesHeld, Waiting, FunctionRuns, ConfigurationStands}
 use Rattle.c0_stmt_code.proofs.PremisesFromBelow.{HeldStays, TypedStays, FunctionsAre, AllScalar}
 use Rattle.c0_stmt_code.proofs.RunStretches.{Stretch, on, of, away}
-use Rattle.c0_stmt_code.proofs.WorkAsCode.{or_right, front, back, block_of}
+use Rattle.c0_stmt_code.proofs.WorkAsCode.{Goes, or_right, front, back, block_of}
 use Rattle.c0_stmt_code.proofs.ValuesStay.{word_same}
 use Rattle.c0_stmt_code.proofs.FunctionsUnderWay.{rest_of, state_of, standing_at}
 use Rattle.c0_stmt_code.proofs.RegionsApart.{frame_words, frame_on, words_by_types, waiting_same}
@@ -72,6 +77,16 @@ module _ (runs : RunLaws) (compose : RunsCompose) (W E : Type 0) (Outer : W → 
 
     abbrev low : ℕ
     low = end_of W E Outer z fs
+
+    -- what is known at its begin
+    abbrev known_first : Facts
+    known_first = first_facts sc (length f.params)
+
+    abbrev its_setting : FrameSetting
+    its_setting = frame_setting sc known_first
+
+    nothing_sure : (v : Value) → SureHold known_first v
+    nothing_sure v n y = absurd (start_sure sc.in_registers (length f.params) n y)
 
     -- the data stand while what is changed lies in the frame that begins
     stands_in : (h' : Configuration W E) (c' : Contents) → h'.state.global_values ≡ gv → IsTypedWith z.p.unit objects h'.state → (h'.state.heap_values ≡ hv) → (h'.state.heap_words ≡ hw) → (h'.world ≡ world) → stack_words z.p.unit h'.state.frames ≤ z.p.stack
@@ -136,6 +151,9 @@ module _ (runs : RunLaws) (compose : RunsCompose) (W E : Type 0) (Outer : W → 
     abbrev its_live : List CDecl → CStmts → CExpr → ℕ → Bool
     its_live locals stmts result = first_live (length f.params) locals stmts result
 
+    abbrev its_activation : List CDecl → CStmts → CExpr → Activation
+    its_activation locals stmts result = record { function = f; to = to; live = its_live locals stmts result; facts = known_first }
+
     -- and so is all that what is left to do may read
     live_first : (locals : List CDecl) (stmts : CStmts) (result : CExpr) → AreLiveBehind (its_live locals stmts result) acts stmts (leave result target ∷ work)
     live_first locals stmts result = ((λ m q. or_right (nat_lt m (length f.params)) (is_cleared locals stmts result m) (or_right (not (are_scalar locals)) _ q)), live)
@@ -168,19 +186,39 @@ module _ (runs : RunLaws) (compose : RunsCompose) (W E : Type 0) (Outer : W → 
                   (λ j lt wants. ap m (omega (arith, on)) ∙ zeros_at j (omega (arith, lt, ls)) wants);
             })
 
+    -- the parameters' words stand in their registers too
+    params_known : (locals : List CDecl) (stmts : CStmts) (result : CExpr) (b : Contents) → f.body ≡ code locals stmts result → sc.in_registers ≡ false → ((j : ℕ) → j < length f.params → b.regs (20 + j) ≡ b.memory (low + 3 + j))
+        → RegistersHold sc (bases W E Outer z objects (frame_of locals ∷ fs)) known_first b
+    params_known locals stmts result b e form same = record {
+      params = λ j y t there scalar. let lt = start_params sc.in_registers (length f.params) j y in same j lt ∙ ap b.memory (at_word j lt);
+      answer = λ j y. absurd (start_answer sc.in_registers (length f.params) j y);
+    }
+      where
+        at_word : (j : ℕ) → j < length f.params → low + 3 + j ≡ locals_start sc (bases W E Outer z objects (frame_of locals ∷ fs)) + words_before (shapes z.p.unit) (types_of sc.env.locals) j
+        at_word j lt = by_form sc.in_registers form
+          where
+            by_form : (r : Bool) → r ≡ false → low + 3 + j ≡ (if r then 20 else (end_of W E Outer z (frame_of locals ∷ fs) - words_of_frame (shapes z.p.unit) f) + 3) + words_before (shapes z.p.unit) (types_of sc.env.locals) j
+            by_form true q = absurd (cc)
+            by_form false q =
+                let on = frame_on z.p.unit (frame_of locals) fs f is in
+                let t = types_length f.params in
+                let split = types_joined f.params (locals_of f.body) in
+                let before = ap (λ ts. words_before (shapes z.p.unit) ts j) split ∙ params_before (shapes z.p.unit) (types_of (map typed_of f.params)) (types_of (map typed_of (locals_of f.body))) j (functions.scalars n f is) (omega (arith, lt, t)) in
+                omega (arith, on, before)
+
     abbrev its_entry : List CDecl → CStmts → CExpr → List Inst
-    its_entry locals stmts result = save_code (frame_setting sc) (are_calling stmts) ++ (params_code (frame_setting sc) (length f.params) 0 ++ locals_code (frame_setting sc) (is_cleared locals stmts result) (all_words (shapes z.p.unit) (map typed_of locals)) (length f.params))
+    its_entry locals stmts result = save_code its_setting (are_calling stmts) ++ (params_code its_setting (length f.params) 0 ++ locals_code its_setting (is_cleared locals stmts result) (all_words (shapes z.p.unit) (map typed_of locals)) (length f.params))
 
     abbrev its_body : CStmts → CExpr → List Inst
-    its_body stmts result = stmts_code sc (code_text W E Outer z).links stmts ++ return_code sc (are_calling stmts) result
+    its_body stmts result = stmts_code sc known_first (code_text W E Outer z).links stmts ++ return_code sc (behind_stmts sc known_first stmts) (are_calling stmts) result
 
-    code_is : (locals : List CDecl) (stmts : CStmts) (result : CExpr) → f.body ≡ code locals stmts result → sc.in_registers ≡ false → function_code sc (code_text W E Outer z).links f ≡ (stack_test (frame_setting sc) 29 ++ its_entry locals stmts result) ++ its_body stmts result
+    code_is : (locals : List CDecl) (stmts : CStmts) (result : CExpr) → f.body ≡ code locals stmts result → sc.in_registers ≡ false → function_code sc (code_text W E Outer z).links f ≡ (stack_test its_setting 29 ++ its_entry locals stmts result) ++ its_body stmts result
     code_is locals stmts result e form =
         ap (λ b. body_code sc (code_text W E Outer z).links (length f.params) b) e
-        ∙ ap (λ is. is ++ its_body stmts result) (cond-false sc.in_registers (register_entry (frame_setting sc) (is_cleared locals stmts result) (length f.params) (length locals) (are_calling stmts)) (frame_entry (frame_setting sc) (is_cleared locals stmts result) (length f.params) (all_words (shapes z.p.unit) (map typed_of locals)) (are_calling stmts)) form)
+        ∙ ap (λ is. is ++ its_body stmts result) (cond-false sc.in_registers (register_entry its_setting (is_cleared locals stmts result) (length f.params) (length locals) (are_calling stmts)) (frame_entry its_setting (is_cleared locals stmts result) (length f.params) (all_words (shapes z.p.unit) (map typed_of locals)) (are_calling stmts)) form)
 
-    test_some : 1 ≤ length (stack_test (frame_setting sc) 29)
-    test_some = omega (arith, length-append (large_code (frame_setting sc)) (end_code 29 (4 * sc.frame) ++ (Sltu 1 30 29 ∷ Beq 1 0 1 ∷ J (sc.exit StackOut) ∷ [])), length-append (end_code 29 (4 * sc.frame)) (Sltu 1 30 29 ∷ Beq 1 0 1 ∷ J (sc.exit StackOut) ∷ []))
+    test_some : 1 ≤ length (stack_test its_setting 29)
+    test_some = omega (arith, length-append (large_code its_setting) (end_code 29 (4 * sc.frame) ++ (Sltu 1 30 29 ∷ Beq 1 0 1 ∷ J (sc.exit StackOut) ∷ [])), length-append (end_code 29 (4 * sc.frame)) (Sltu 1 30 29 ∷ Beq 1 0 1 ∷ J (sc.exit StackOut) ∷ []))
 
     pub enters : (l m k : ℕ) (cost : Cost) (h0 : Configuration W E) (s0 : CodeState) (locals : List CDecl) (stmts : CStmts) (result : CExpr) → f.body ≡ code locals stmts result → sc.in_registers ≡ false
         → Path runs compose W E Outer z jumps l m s0 (at_with k c d) → CodeAt z.w k (function_code sc (code_text W E Outer z).links f) → cost.own + 9 ≤ 2048 * (l + 1) → m ≤ 30 * cost.own → length calls ≡ calls_ended h0
@@ -196,11 +234,11 @@ module _ (runs : RunLaws) (compose : RunsCompose) (W E : Type 0) (Outer : W → 
         cost2 : Cost
         cost2 = plus (plus cost (units 1)) (units 0)
 
-        code_at : CodeAt z.w k ((stack_test (frame_setting sc) 29 ++ its_entry locals stmts result) ++ its_body stmts result)
+        code_at : CodeAt z.w k ((stack_test its_setting 29 ++ its_entry locals stmts result) ++ its_body stmts result)
         code_at = subst (CodeAt z.w k) (code_is locals stmts result e form) there
 
-        test_at : CodeAt z.w k (stack_test (frame_setting sc) 29)
-        test_at = front z.w k (stack_test (frame_setting sc) 29) (its_entry locals stmts result) (front z.w k (stack_test (frame_setting sc) 29 ++ its_entry locals stmts result) (its_body stmts result) code_at)
+        test_at : CodeAt z.w k (stack_test its_setting 29)
+        test_at = front z.w k (stack_test its_setting 29) (its_entry locals stmts result) (front z.w k (stack_test its_setting 29 ++ its_entry locals stmts result) (its_body stmts result) code_at)
 
         fails : z.p.stack < stack_words z.p.unit fs + words_of_frame (shapes z.p.unit) f → GoesOn W E Outer z debt h0 s0 (Stop cost2 (faulted StackOut) here)
         fails over =
@@ -208,7 +246,7 @@ module _ (runs : RunLaws) (compose : RunsCompose) (W E : Type 0) (Outer : W → 
             let sm = z.stack_small in
             let ws = z.sound.small in
             let sr = st.stack_room in
-            let r = (tested compose z.w z.sound straight jumps (frame_setting sc) low (z.a.stack + z.p.stack) 29 k c d st.idle (λ q. absurd (omega (arith, q))) (λ q. absurd (omega (arith, q))) at_end st.stack_end (omega (arith, sr)) (omega (arith, sf, ws)) (omega (arith, sm)) test_at).0 (omega (arith, over)) in
+            let r = (tested compose z.w z.sound straight jumps its_setting low (z.a.stack + z.p.stack) 29 k c d st.idle (λ q. absurd (omega (arith, q))) (λ q. absurd (omega (arith, q))) at_end st.stack_end (omega (arith, sr)) (omega (arith, sf, ws)) (omega (arith, sm)) test_at).0 (omega (arith, over)) in
             let way = on runs z.w l m 0 7 s0 (at_with k c d) (at_with (sc.exit StackOut) r.0 d) path (of runs z.w 7 _ _ r.2) in
             let le = way.high in (
               at_with (sc.exit StackOut) r.0 d,
@@ -227,42 +265,43 @@ module _ (runs : RunLaws) (compose : RunsCompose) (W E : Type 0) (Outer : W → 
             let sz = size locals stmts result e in
             let few = functions.few n f is in
             let on_frame = frame_on z.p.unit (frame_of locals) fs f is in
-            let t = (tested compose z.w z.sound straight jumps (frame_setting sc) low (z.a.stack + z.p.stack) 29 k c d st.idle (λ q. absurd (omega (arith, q))) (λ q. absurd (omega (arith, q))) at_end st.stack_end (omega (arith, sr)) (omega (arith, sf, ws)) (omega (arith, sm)) test_at).1 (omega (arith, fine)) in
+            let t = (tested compose z.w z.sound straight jumps its_setting low (z.a.stack + z.p.stack) 29 k c d st.idle (λ q. absurd (omega (arith, q))) (λ q. absurd (omega (arith, q))) at_end st.stack_end (omega (arith, sr)) (omega (arith, sf, ws)) (omega (arith, sm)) test_at).1 (omega (arith, fine)) in
             let c1 : Contents = t.0 in
-            let k1 : ℕ = k + length (stack_test (frame_setting sc) 29) in
-            let entry_at = back z.w k (stack_test (frame_setting sc) 29) (its_entry locals stmts result) (front z.w k (stack_test (frame_setting sc) 29 ++ its_entry locals stmts result) (its_body stmts result) code_at) in
-            let fr = frames compose z.w z.sound straight jumps runs (frame_setting sc) (low + sc.frame) (omega arith) (omega (arith, fine, sf, ws)) (omega (arith, fine, sf)) (λ x ge lt. z.ours x (inl (omega (arith, ge, gf, hf), omega (arith, lt, fine)))) (are_calling stmts) (is_cleared locals stmts result) (length f.params) (all_words (shapes z.p.unit) (map typed_of locals)) k1 t.0 d st.idle sz few (t.1.is (λ q. absurd (omega (arith, q)))) entry_at in
+            let k1 : ℕ = k + length (stack_test its_setting 29) in
+            let entry_at = back z.w k (stack_test its_setting 29) (its_entry locals stmts result) (front z.w k (stack_test its_setting 29 ++ its_entry locals stmts result) (its_body stmts result) code_at) in
+            let fr = frames compose z.w z.sound straight jumps runs its_setting (low + sc.frame) (omega arith) (omega (arith, fine, sf, ws)) (omega (arith, fine, sf)) (λ x ge lt. z.ours x (inl (omega (arith, ge, gf, hf), omega (arith, lt, fine)))) (are_calling stmts) (is_cleared locals stmts result) (length f.params) (all_words (shapes z.p.unit) (map typed_of locals)) k1 t.0 d st.idle sz few (t.1.is (λ q. absurd (omega (arith, q)))) entry_at in
             let c2 : Contents = fr.contents in
             let base : low + sc.frame - sc.frame ≡ low = omega arith in
-            let kb : ℕ = k + length (stack_test (frame_setting sc) 29 ++ its_entry locals stmts result) in
-            let len : k1 + length (its_entry locals stmts result) ≡ kb = omega (arith, length-append (stack_test (frame_setting sc) 29) (its_entry locals stmts result)) in
-            let body_at = back z.w k (stack_test (frame_setting sc) 29 ++ its_entry locals stmts result) (its_body stmts result) code_at in
+            let kb : ℕ = k + length (stack_test its_setting 29 ++ its_entry locals stmts result) in
+            let len : k1 + length (its_entry locals stmts result) ≡ kb = omega (arith, length-append (stack_test its_setting 29) (its_entry locals stmts result)) in
+            let body_at = back z.w k (stack_test its_setting 29 ++ its_entry locals stmts result) (its_body stmts result) code_at in
             let regs : (x : ℕ) → x ≢ 1 → x ≢ 2 → x ≢ 29 → fr.contents.regs x ≡ c.regs x = λ x n1 n2 n29. fr.made.regs x n1 n2 ∙ t.1.others x n1 n29 in
             let memory : (x : ℕ) → (x < low) ⊎ (low + sc.frame ≤ x) → fr.contents.memory x ≡ c.memory x = λ x side. fr.made.others x (subst (λ y. (x < y) ⊎ (low + sc.frame ≤ x)) (sym base) side) ∙ ap (λ m. m x) t.1.memory in
             let st2 = stands_in (with_state here (pushed (frame_of locals) (state_of gv hv hw fs))) fr.contents refl (typing.entered objects (state_of gv hv hw fs) n f locals stmts result args is e st.typed fits) refl refl refl (omega (arith, on_frame, fine))
             (λ x side. elim side [ inl lt ↦ memory x (inl lt) | inr ge ↦ memory x (inr (omega (arith, ge, fine))) ]) (fr.made.special ∙ t.1.special) (regs 28 (λ q. absurd (omega (arith, q))) (λ q. absurd (omega (arith, q))) (λ q. absurd (omega (arith, q)))) (regs 30 (λ q. absurd (omega (arith, q))) (λ q. absurd (omega (arith, q))) (λ q. absurd (omega (arith, q)))) in
-            let new : Activation = record { function = f; to = to; live = its_live locals stmts result } in
-            let runs_new : FunctionRuns W E Outer z objects fr.contents (record { function = f; to = to; live = its_live locals stmts result }) (frame_of locals) fs = record {
+            let runs_new : FunctionRuns W E Outer z objects fr.contents (its_activation locals stmts result) (frame_of locals) fs = record {
               is = is;
               return_at = returns (are_calling stmts) (ap calls_in e) fr.contents (λ q. ap fr.contents.memory (sym base) ∙ fr.made.saved q ∙ t.1.others 31 (λ q. absurd (omega (arith, q))) (λ q. absurd (omega (arith, q))) ∙ return_at) (regs 31 (λ q. absurd (omega (arith, q))) (λ q. absurd (omega (arith, q))) (λ q. absurd (omega (arith, q))) ∙ return_at);
               frame_at = fr.made.regs 29 (λ q. absurd (omega (arith, q))) (λ q. absurd (omega (arith, q))) ∙ t.1.is (λ q. absurd (omega (arith, q))) ∙ omega (arith, on_frame) ∙ sym (ap (λ b. 4 * (if b then low else end_of W E Outer z (frame_of locals ∷ fs))) form);
               variables = variables_stand locals stmts result fr.contents.memory fr.contents.regs e form (λ i lt. ap fr.contents.memory (omega arith) ∙ fr.made.arguments i lt ∙ t.1.others (20 + i) (λ q. absurd (omega (arith, q))) (λ q. absurd (omega (arith, q, lt, few))))
                   (λ j lt wants. ap fr.contents.memory (omega arith) ∙ fr.made.zeros j lt wants);
+              registers = λ q. params_known locals stmts result fr.contents e form (λ i lt. fr.made.regs (20 + i) (λ q. absurd (omega (arith, q))) (λ q. absurd (omega (arith, q))) ∙ sym (ap fr.contents.memory (omega arith) ∙ fr.made.arguments i lt));
+              sure = nothing_sure (frame_of locals).variables;
             } in
             let waits2 = waiting_same W E Outer z held objects c.memory fr.contents.memory acts fs (λ x le lt. memory x (inl lt)) waits in
             let bodies = functions.typed n f locals stmts result is e in
             let count = functions.nodes n f locals stmts result is e in
             let calling : are_calling stmts ≡ calls_in f.body = sym (ap calls_in e) in
-            let result_at = back z.w kb (stmts_code sc (code_text W E Outer z).links stmts) (return_code sc (are_calling stmts) result) body_at in
-            let block = block_of (code_text W E Outer z) f (λ at left. Ahead (code_text W E Outer z) (record { function = f; to = to; live = its_live locals stmts result } ∷ acts) at left (leave result target ∷ work)) stmts kb 0 (kb + length (stmts_code sc (code_text W E Outer z).links stmts)) debt debt bodies.0 (omega (arith, count)) (λ q. let w : true ≡ false = sym q ∙ form in absurd (cc)) (λ q. ap calls_in e ∙ q)
-            (front z.w kb (stmts_code sc (code_text W E Outer z).links stmts) (return_code sc (are_calling stmts) result) body_at) refl (omega arith)
-            (record { test = bodies.1; few = omega (arith, count); code = subst (λ b. CodeAt z.w (kb + length (stmts_code sc (code_text W E Outer z).links stmts)) (return_code sc b result)) calling result_at }, ahead) in
+            let result_at = back z.w kb (stmts_code sc known_first (code_text W E Outer z).links stmts) (return_code sc (behind_stmts sc known_first stmts) (are_calling stmts) result) body_at in
+            let block = block_of (code_text W E Outer z) f (λ known at left. Goes (code_text W E Outer z) (its_activation locals stmts result) acts (leave result target ∷ work) known at left) stmts known_first kb 0 (kb + length (stmts_code sc known_first (code_text W E Outer z).links stmts)) debt debt bodies.0 (omega (arith, count)) (λ q. let w : true ≡ false = sym q ∙ form in absurd (cc)) (λ q. ap calls_in e ∙ q)
+            (front z.w kb (stmts_code sc known_first (code_text W E Outer z).links stmts) (return_code sc (behind_stmts sc known_first stmts) (are_calling stmts) result) body_at) refl (omega arith) (behind_stmts sc known_first stmts) (within_itself (behind_stmts sc known_first stmts))
+            (record { test = bodies.1; few = omega (arith, count); code = subst (λ b. CodeAt z.w (kb + length (stmts_code sc known_first (code_text W E Outer z).links stmts)) (return_code sc (behind_stmts sc known_first stmts) b result)) calling result_at }, ahead) in
             let way1 = on runs z.w l m 1 5 s0 (at_with k c d) (at_with k1 t.0 d) path (away runs z.w 5 (at_with k c d) (at_with k1 t.0 d) (λ q. let ts = test_some in absurd (omega (arith, q, ts))) t.2) in
             let way2 = on runs z.w (l + 1) (m + 5) fr.least fr.most s0 (at_with k1 t.0 d) (at_with kb fr.contents d) way1 (subst (λ y. Stretch runs z.w fr.least fr.most (at_with k1 t.0 d) (at_with y fr.contents d)) len fr.way) in
             let paid = fr.paid in
             let price : fr.most ≤ 25 + 30 * all_words (shapes z.p.unit) (map typed_of locals) = entry_price (length f.params) (all_words (shapes z.p.unit) (map typed_of locals)) fr.most few fr.few fr.none in
             arrives runs compose W E Outer z jumps (l + 1 + fr.least) (m + 5 + fr.most) debt debt (plus cost2 (units (all_words (shapes z.p.unit) (map typed_of locals)))) h0 (with_state here (pushed (frame_of locals) (state_of gv hv hw fs))) s0 kb fr.contents d objects
-            (record { function = f; to = to; live = its_live locals stmts result }) acts stmts (leave result target ∷ work) way2 (omega (arith, paid, low_paid)) (omega (arith, high_paid, price)) (omega (arith, en)) st2 (runs_new, waits2) block (live_first locals stmts result)
+            (its_activation locals stmts result) acts stmts (leave result target ∷ work) way2 (omega (arith, paid, low_paid)) (omega (arith, high_paid, price)) (omega (arith, en)) st2 (runs_new, waits2) block (live_first locals stmts result)
           where
             returns : (b : Bool) → calls_in f.body ≡ b → (c2 : Contents) → (b ≡ true → c2.memory low ≡ 4 * to) → c2.regs 31 ≡ 4 * to → (if calls_in f.body then c2.memory low else c2.regs 31) ≡ 4 * to
             returns true q c2 h g = ap (λ b. if b then c2.memory low else c2.regs 31) q ∙ h refl
@@ -272,13 +311,13 @@ module _ (runs : RunLaws) (compose : RunsCompose) (W E : Type 0) (Outer : W → 
     abbrev light_entry : List CDecl → CStmts → CExpr → List Inst
     light_entry locals stmts result = (if are_calling stmts then Sw 31 29 0 ∷ [] else []) ++ clear_code (is_cleared locals stmts result) (length locals) (length f.params)
 
-    light_code_is : (locals : List CDecl) (stmts : CStmts) (result : CExpr) → f.body ≡ code locals stmts result → sc.in_registers ≡ true → function_code sc (code_text W E Outer z).links f ≡ (stack_test (frame_setting sc) 1 ++ light_entry locals stmts result) ++ its_body stmts result
+    light_code_is : (locals : List CDecl) (stmts : CStmts) (result : CExpr) → f.body ≡ code locals stmts result → sc.in_registers ≡ true → function_code sc (code_text W E Outer z).links f ≡ (stack_test its_setting 1 ++ light_entry locals stmts result) ++ its_body stmts result
     light_code_is locals stmts result e form =
         ap (λ b. body_code sc (code_text W E Outer z).links (length f.params) b) e
-        ∙ ap (λ is. is ++ its_body stmts result) (cond-true sc.in_registers (register_entry (frame_setting sc) (is_cleared locals stmts result) (length f.params) (length locals) (are_calling stmts)) (frame_entry (frame_setting sc) (is_cleared locals stmts result) (length f.params) (all_words (shapes z.p.unit) (map typed_of locals)) (are_calling stmts)) form)
+        ∙ ap (λ is. is ++ its_body stmts result) (cond-true sc.in_registers (register_entry its_setting (is_cleared locals stmts result) (length f.params) (length locals) (are_calling stmts)) (frame_entry its_setting (is_cleared locals stmts result) (length f.params) (all_words (shapes z.p.unit) (map typed_of locals)) (are_calling stmts)) form)
 
-    light_test_some : 1 ≤ length (stack_test (frame_setting sc) 1)
-    light_test_some = omega (arith, length-append (large_code (frame_setting sc)) (end_code 1 (4 * sc.frame) ++ (Sltu 1 30 1 ∷ Beq 1 0 1 ∷ J (sc.exit StackOut) ∷ [])), length-append (end_code 1 (4 * sc.frame)) (Sltu 1 30 1 ∷ Beq 1 0 1 ∷ J (sc.exit StackOut) ∷ []))
+    light_test_some : 1 ≤ length (stack_test its_setting 1)
+    light_test_some = omega (arith, length-append (large_code its_setting) (end_code 1 (4 * sc.frame) ++ (Sltu 1 30 1 ∷ Beq 1 0 1 ∷ J (sc.exit StackOut) ∷ [])), length-append (end_code 1 (4 * sc.frame)) (Sltu 1 30 1 ∷ Beq 1 0 1 ∷ J (sc.exit StackOut) ∷ []))
 
     -- what is known of its variables
     record IsLight (locals : List CDecl) (stmts : CStmts) : Type 0 where
@@ -338,11 +377,11 @@ module _ (runs : RunLaws) (compose : RunsCompose) (W E : Type 0) (Outer : W → 
         cost2 : Cost
         cost2 = plus (plus cost (units 1)) (units 0)
 
-        code_at : CodeAt z.w k ((stack_test (frame_setting sc) 1 ++ light_entry locals stmts result) ++ its_body stmts result)
+        code_at : CodeAt z.w k ((stack_test its_setting 1 ++ light_entry locals stmts result) ++ its_body stmts result)
         code_at = subst (CodeAt z.w k) (light_code_is locals stmts result e form) there
 
-        test_at : CodeAt z.w k (stack_test (frame_setting sc) 1)
-        test_at = front z.w k (stack_test (frame_setting sc) 1) (light_entry locals stmts result) (front z.w k (stack_test (frame_setting sc) 1 ++ light_entry locals stmts result) (its_body stmts result) code_at)
+        test_at : CodeAt z.w k (stack_test its_setting 1)
+        test_at = front z.w k (stack_test its_setting 1) (light_entry locals stmts result) (front z.w k (stack_test its_setting 1 ++ light_entry locals stmts result) (its_body stmts result) code_at)
 
         fails : z.p.stack < stack_words z.p.unit fs + words_of_frame (shapes z.p.unit) f → GoesOn W E Outer z debt h0 s0 (Stop cost2 (faulted StackOut) here)
         fails over =
@@ -350,7 +389,7 @@ module _ (runs : RunLaws) (compose : RunsCompose) (W E : Type 0) (Outer : W → 
             let sm = z.stack_small in
             let ws = z.sound.small in
             let sr = st.stack_room in
-            let r = (tested compose z.w z.sound straight jumps (frame_setting sc) low (z.a.stack + z.p.stack) 1 k c d st.idle (λ q. absurd (omega (arith, q))) (λ q. absurd (omega (arith, q))) at_end st.stack_end (omega (arith, sr)) (omega (arith, sf, ws)) (omega (arith, sm)) test_at).0 (omega (arith, over)) in
+            let r = (tested compose z.w z.sound straight jumps its_setting low (z.a.stack + z.p.stack) 1 k c d st.idle (λ q. absurd (omega (arith, q))) (λ q. absurd (omega (arith, q))) at_end st.stack_end (omega (arith, sr)) (omega (arith, sf, ws)) (omega (arith, sm)) test_at).0 (omega (arith, over)) in
             let way = on runs z.w l m 0 7 s0 (at_with k c d) (at_with (sc.exit StackOut) r.0 d) path (of runs z.w 7 _ _ r.2) in
             let le = way.high in (
               at_with (sc.exit StackOut) r.0 d,
@@ -373,40 +412,42 @@ module _ (runs : RunLaws) (compose : RunsCompose) (W E : Type 0) (Outer : W → 
             let w2 = words_by_types (shapes z.p.unit) (map typed_of locals) in
             let fw = frame_words z.p.unit f in
             let on_frame = frame_on z.p.unit (frame_of locals) fs f is in
-            let t = (tested compose z.w z.sound straight jumps (frame_setting sc) low (z.a.stack + z.p.stack) 1 k c d st.idle (λ q. absurd (omega (arith, q))) (λ q. absurd (omega (arith, q))) at_end st.stack_end (omega (arith, sr)) (omega (arith, sf, ws)) (omega (arith, sm)) test_at).1 (omega (arith, fine)) in
-            let k1 : ℕ = k + length (stack_test (frame_setting sc) 1) in
-            let entry_at = back z.w k (stack_test (frame_setting sc) 1) (light_entry locals stmts result) (front z.w k (stack_test (frame_setting sc) 1 ++ light_entry locals stmts result) (its_body stmts result) code_at) in
+            let t = (tested compose z.w z.sound straight jumps its_setting low (z.a.stack + z.p.stack) 1 k c d st.idle (λ q. absurd (omega (arith, q))) (λ q. absurd (omega (arith, q))) at_end st.stack_end (omega (arith, sr)) (omega (arith, sf, ws)) (omega (arith, sm)) test_at).1 (omega (arith, fine)) in
+            let k1 : ℕ = k + length (stack_test its_setting 1) in
+            let entry_at = back z.w k (stack_test its_setting 1) (light_entry locals stmts result) (front z.w k (stack_test its_setting 1 ++ light_entry locals stmts result) (its_body stmts result) code_at) in
             let save = saves_light compose z.w straight (are_calling stmts) low k1 t.0 d st.idle (t.1.others 29 (λ q. absurd (omega (arith, q))) (λ q. absurd (omega (arith, q))) ∙ at_end) (omega (arith, fine, sf, fw)) ws (z.ours low (inl (omega (arith, gf, hf), omega (arith, fine, fw)))) (front z.w k1 (if are_calling stmts then Sw 31 29 0 ∷ [] else []) (clear_code (is_cleared locals stmts result) (length locals) (length f.params)) entry_at) in
             let k15 : ℕ = k1 + length (if are_calling stmts then Sw 31 29 0 ∷ [] else []) in
             let clear = clears compose z.w straight (is_cleared locals stmts result) (length locals) (length f.params) k15 save.0 d st.idle few (back z.w k1 (if are_calling stmts then Sw 31 29 0 ∷ [] else []) (clear_code (is_cleared locals stmts result) (length locals) (length f.params)) entry_at) in
             let c2 : Contents = clear.0 in
-            let kb : ℕ = k + length (stack_test (frame_setting sc) 1 ++ light_entry locals stmts result) in
-            let len : k15 + length (clear_code (is_cleared locals stmts result) (length locals) (length f.params)) ≡ kb = omega (arith, length-append (stack_test (frame_setting sc) 1) (light_entry locals stmts result), length-append (if are_calling stmts then Sw 31 29 0 ∷ [] else []) (clear_code (is_cleared locals stmts result) (length locals) (length f.params))) in
-            let body_at = back z.w k (stack_test (frame_setting sc) 1 ++ light_entry locals stmts result) (its_body stmts result) code_at in
+            let kb : ℕ = k + length (stack_test its_setting 1 ++ light_entry locals stmts result) in
+            let len : k15 + length (clear_code (is_cleared locals stmts result) (length locals) (length f.params)) ≡ kb = omega (arith, length-append (stack_test its_setting 1) (light_entry locals stmts result), length-append (if are_calling stmts then Sw 31 29 0 ∷ [] else []) (clear_code (is_cleared locals stmts result) (length locals) (length f.params))) in
+            let body_at = back z.w k (stack_test its_setting 1 ++ light_entry locals stmts result) (its_body stmts result) code_at in
             let regs : (x : ℕ) → x ≢ 1 → (x < 20 + length f.params) ⊎ (20 + length f.params + length locals ≤ x) → clear.0.regs x ≡ c.regs x = λ x n1 side. clear.1.others x side ∙ ap (λ r. r x) save.1.regs ∙ t.1.others x n1 n1 in
             let high : (x : ℕ) → 28 ≤ x → clear.0.regs x ≡ c.regs x = λ x le. regs x (λ q. absurd (omega (arith, q, le))) (inr (omega (arith, le, few))) in
             let memory : (x : ℕ) → x ≢ low → clear.0.memory x ≡ c.memory x = λ x ne. ap (λ m. m x) clear.1.memory ∙ save.1.others x ne ∙ ap (λ m. m x) t.1.memory in
             let st2 = stands_in (with_state here (pushed (frame_of locals) (state_of gv hv hw fs))) clear.0 refl (typing.entered objects (state_of gv hv hw fs) n f locals stmts result args is e st.typed fits) refl refl refl (omega (arith, on_frame, fine))
             (λ x side. elim side [ inl lt ↦ memory x (λ q. absurd (omega (arith, q, lt))) | inr ge ↦ memory x (λ q. absurd (omega (arith, q, ge, fine, fw))) ]) (clear.1.special ∙ save.1.special ∙ t.1.special) (high 28 (omega arith)) (high 30 (omega arith)) in
-            let runs_new : FunctionRuns W E Outer z objects clear.0 (record { function = f; to = to; live = its_live locals stmts result }) (frame_of locals) fs = record {
+            let runs_new : FunctionRuns W E Outer z objects clear.0 (its_activation locals stmts result) (frame_of locals) fs = record {
               is = is;
               return_at = light_returns (are_calling stmts) (ap calls_in e) clear.0 (λ q. ap (λ m. m low) clear.1.memory ∙ save.1.is q ∙ t.1.others 31 (λ q. absurd (omega (arith, q))) (λ q. absurd (omega (arith, q))) ∙ return_at) (high 31 (omega arith) ∙ return_at);
               frame_at = high 29 (omega arith) ∙ at_end ∙ sym (ap (λ b. 4 * (if b then low else end_of W E Outer z (frame_of locals ∷ fs))) form);
               variables = light_variables locals stmts result clear.0.regs clear.0.memory e form (λ i lt. regs (20 + i) (λ q. absurd (omega (arith, q))) (inl (omega (arith, lt)))) (λ j lt wants. clear.1.zeros j lt wants);
+              registers = λ q. absurd (let w : true ≡ false = sym form ∙ q in cc);
+              sure = nothing_sure (frame_of locals).variables;
             } in
             let waits2 = waiting_same W E Outer z held objects c.memory clear.0.memory acts fs (λ x le lt. memory x (λ q. absurd (omega (arith, q, lt)))) waits in
             let bodies = functions.typed n f locals stmts result is e in
             let count = functions.nodes n f locals stmts result is e in
             let calling : are_calling stmts ≡ calls_in f.body = sym (ap calls_in e) in
-            let result_at = back z.w kb (stmts_code sc (code_text W E Outer z).links stmts) (return_code sc (are_calling stmts) result) body_at in
-            let block = block_of (code_text W E Outer z) f (λ at left. Ahead (code_text W E Outer z) (record { function = f; to = to; live = its_live locals stmts result } ∷ acts) at left (leave result target ∷ work)) stmts kb 0 (kb + length (stmts_code sc (code_text W E Outer z).links stmts)) debt debt bodies.0 (omega (arith, count)) (λ q. light.free) (λ q. ap calls_in e ∙ q)
-            (front z.w kb (stmts_code sc (code_text W E Outer z).links stmts) (return_code sc (are_calling stmts) result) body_at) refl (omega arith)
-            (record { test = bodies.1; few = omega (arith, count); code = subst (λ b. CodeAt z.w (kb + length (stmts_code sc (code_text W E Outer z).links stmts)) (return_code sc b result)) calling result_at }, ahead) in
+            let result_at = back z.w kb (stmts_code sc known_first (code_text W E Outer z).links stmts) (return_code sc (behind_stmts sc known_first stmts) (are_calling stmts) result) body_at in
+            let block = block_of (code_text W E Outer z) f (λ known at left. Goes (code_text W E Outer z) (its_activation locals stmts result) acts (leave result target ∷ work) known at left) stmts known_first kb 0 (kb + length (stmts_code sc known_first (code_text W E Outer z).links stmts)) debt debt bodies.0 (omega (arith, count)) (λ q. light.free) (λ q. ap calls_in e ∙ q)
+            (front z.w kb (stmts_code sc known_first (code_text W E Outer z).links stmts) (return_code sc (behind_stmts sc known_first stmts) (are_calling stmts) result) body_at) refl (omega arith) (behind_stmts sc known_first stmts) (within_itself (behind_stmts sc known_first stmts))
+            (record { test = bodies.1; few = omega (arith, count); code = subst (λ b. CodeAt z.w (kb + length (stmts_code sc known_first (code_text W E Outer z).links stmts)) (return_code sc (behind_stmts sc known_first stmts) b result)) calling result_at }, ahead) in
             let way1 = on runs z.w l m 1 5 s0 (at_with k c d) (at_with k1 t.0 d) path (away runs z.w 5 (at_with k c d) (at_with k1 t.0 d) (λ q. let ts = light_test_some in absurd (omega (arith, q, ts))) t.2) in
             let way2 = on runs z.w (l + 1) (m + 5) 0 1 s0 (at_with k1 t.0 d) (at_with k15 save.0 d) way1 (of runs z.w 1 _ _ save.2) in
             let way3 = on runs z.w (l + 1 + 0) (m + 5 + 1) 0 (length locals) s0 (at_with k15 save.0 d) (at_with kb clear.0 d) way2 (of runs z.w (length locals) _ _ (subst (λ y. Reaches z.w (length locals) (at_with k15 save.0 d) (at_with y clear.0 d)) len clear.2)) in
             arrives runs compose W E Outer z jumps (l + 1 + 0 + 0) (m + 5 + 1 + length locals) debt debt (plus cost2 (units (all_words (shapes z.p.unit) (map typed_of locals)))) h0 (with_state here (pushed (frame_of locals) (state_of gv hv hw fs))) s0 kb clear.0 d objects
-            (record { function = f; to = to; live = its_live locals stmts result }) acts stmts (leave result target ∷ work) way3 (omega (arith, low_paid, few, k2, t2, w2)) (omega (arith, high_paid, few, k2, t2, w2)) (omega (arith, en)) st2 (runs_new, waits2) block (live_first locals stmts result)
+            (its_activation locals stmts result) acts stmts (leave result target ∷ work) way3 (omega (arith, low_paid, few, k2, t2, w2)) (omega (arith, high_paid, few, k2, t2, w2)) (omega (arith, en)) st2 (runs_new, waits2) block (live_first locals stmts result)
           where
             light_returns : (b : Bool) → calls_in f.body ≡ b → (c2 : Contents) → (b ≡ true → c2.memory low ≡ 4 * to) → c2.regs 31 ≡ 4 * to → (if calls_in f.body then c2.memory low else c2.regs 31) ≡ 4 * to
             light_returns true q c2 h g = ap (λ b. if b then c2.memory low else c2.regs 31) q ∙ h refl

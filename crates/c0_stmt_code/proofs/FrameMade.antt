@@ -5,7 +5,7 @@ use Rattle.std.proofs.lemmas.Bool.{cases_Bool, cond-true, cond-false, ltb-true, 
 use Rattle.mips_table.specs.declared.inst.Inst.TheVariants.{Addiu, Sltu, Beq, Bne, J, Sw}
 use Rattle.mips_table.specs.Arith.{sum, flag}
 use Rattle.mips_table.specs.Device.{Idle}
-use Rattle.mips_table.specs.Code.{Contents, put, reg, with_reg, Behind, World, Sound, CodeState, at_with, Reaches, RunLaws, CodeAt}
+use Rattle.mips_table.specs.Code.{Contents, put, reg, with_reg, Behind, World, Sound, at_with, Reaches, RunLaws, CodeAt}
 use Rattle.masm.specs.Says.{Gives, Writes}
 use Rattle.masm.specs.Laws.{RunsCompose, StraightRuns, JumpsLead}
 use Rattle.c0_meaning.specs.Operators.{StackOut}

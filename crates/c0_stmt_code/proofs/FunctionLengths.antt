@@ -14,12 +14,14 @@ use Rattle.c0_meaning.specs.Limits.{nodes_of, words_held}
 use Rattle.c0_tree.specs.Size.{body_nodes}
 use Rattle.c0_asm_body.specs.Code.{asm_code, arguments_code, instruction_of}
 use Rattle.c0_typed.specs.Leaf.{are_calling}
+use Rattle.c0_expr_code.specs.declared.facts.Facts.{Facts}
+use Rattle.c0_expr_code.specs.Facts.{facts_called, nothing_known, renewed}
 use Rattle.c0_expr_code.specs.Scope.{Scope}
 use Rattle.c0_expr_code.specs.FrameSetting.{FrameSetting, frame_back, frame_setting}
 use Rattle.c0_expr_code.specs.Code.{register_of_variable, constant_code, access_code, value_code}
 use Rattle.c0_expr_code.specs.Test.{test_code}
 use Rattle.c0_stmt_code.specs.Live.{is_cleared}
-use Rattle.c0_stmt_code.specs.Code.{Links, callee_index, answer_code, args_code, otherwise, otherwise_at, turn_code, stmt_code, stmts_code, frame_slot, end_code, large_code, stack_test, save_code, restore_code, params_code, zeros_code, zeros_loop, locals_code, clear_code, frame_entry, frame_return, register_entry, register_return, entry_code, exit_code, return_code, body_code as code_of_body, zero_code, clear_one}
+use Rattle.c0_stmt_code.specs.Code.{Links, callee_index, answer_code, args_code, otherwise, otherwise_at, turn_code, stmt_code, stmts_code, frame_slot, end_code, large_code, stack_test, save_code, restore_code, params_code, zeros_code, zeros_loop, locals_code, clear_code, frame_entry, frame_return, register_entry, register_return, entry_code, exit_code, return_code, body_code as code_of_body, zero_code, clear_one, behind_stmt, behind_stmts, first_facts, told_facts, turn_facts}
 use Rattle.c0_stmt_code.proofs.PremisesFromBelow.{LengthsFit}
 use Rattle.c0_stmt_code.proofs.ShortStatements.{access_length, stmts_length}
 
@@ -30,49 +32,49 @@ otherwise_same (next s rest) c d e = omega (arith, e)
 
 module _ (sc : Scope) (x y : Links) where
   mutual
-    stmt_same : (t : CStmt) → length (stmt_code sc x t) ≡ length (stmt_code sc y t)
-    stmt_same (assign s p v) = refl
-    stmt_same (call s p cs f args) =
-        omega (arith, length-append (args_code sc args 0) (Jal (callee_index x f.kind f.number) ∷ answer_code sc p), length-append (args_code sc args 0) (Jal (callee_index y f.kind f.number) ∷ answer_code sc p))
-    stmt_same (new s p t ts) =
-        omega (arith, length-append (constant_code 2 (words sc.env.structs (ty_of t) % 2 ^ 32)) (Jal x.new_object ∷ answer_code sc p), length-append (constant_code 2 (words sc.env.structs (ty_of t) % 2 ^ 32)) (Jal y.new_object ∷ answer_code sc p))
-    stmt_same (choice s t a b) =
-        let ea = stmts_same a in
-        let eb = stmts_same b in
-        let o = otherwise_same b (stmts_code sc x b) (stmts_code sc y b) eb in
-        let e = ap (λ n. length (test_code sc t false ((n + otherwise_at b) % 2 ^ 16) 8)) ea in
+    stmt_same : (fs : Facts) (t : CStmt) → length (stmt_code sc fs x t) ≡ length (stmt_code sc fs y t)
+    stmt_same fs (assign s p v) = refl
+    stmt_same fs (call s p cs f args) =
+        omega (arith, length-append (args_code sc fs args 0) (Jal (callee_index x f.kind f.number) ∷ answer_code sc (facts_called fs) p), length-append (args_code sc fs args 0) (Jal (callee_index y f.kind f.number) ∷ answer_code sc (facts_called fs) p))
+    stmt_same fs (new s p t ts) =
+        omega (arith, length-append (constant_code 2 (words sc.env.structs (ty_of t) % 2 ^ 32)) (Jal x.new_object ∷ answer_code sc (renewed fs) p), length-append (constant_code 2 (words sc.env.structs (ty_of t) % 2 ^ 32)) (Jal y.new_object ∷ answer_code sc (renewed fs) p))
+    stmt_same fs (choice s t a b) =
+        let ea = stmts_same (told_facts sc fs t true) a in
+        let eb = stmts_same (told_facts sc fs t false) b in
+        let o = otherwise_same b (stmts_code sc (told_facts sc fs t false) x b) (stmts_code sc (told_facts sc fs t false) y b) eb in
+        let e = ap (λ n. length (test_code sc fs t false ((n + otherwise_at b) % 2 ^ 16) 8)) ea in
         omega (
           arith,
           ea,
           o,
           e,
-          length-append (test_code sc t false ((length (stmts_code sc x a) + otherwise_at b) % 2 ^ 16) 8) (stmts_code sc x a ++ otherwise b (stmts_code sc x b)),
-          length-append (stmts_code sc x a) (otherwise b (stmts_code sc x b)),
-          length-append (test_code sc t false ((length (stmts_code sc y a) + otherwise_at b) % 2 ^ 16) 8) (stmts_code sc y a ++ otherwise b (stmts_code sc y b)),
-          length-append (stmts_code sc y a) (otherwise b (stmts_code sc y b)),
+          length-append (test_code sc fs t false ((length (stmts_code sc (told_facts sc fs t true) x a) + otherwise_at b) % 2 ^ 16) 8) (stmts_code sc (told_facts sc fs t true) x a ++ otherwise b (stmts_code sc (told_facts sc fs t false) x b)),
+          length-append (stmts_code sc (told_facts sc fs t true) x a) (otherwise b (stmts_code sc (told_facts sc fs t false) x b)),
+          length-append (test_code sc fs t false ((length (stmts_code sc (told_facts sc fs t true) y a) + otherwise_at b) % 2 ^ 16) 8) (stmts_code sc (told_facts sc fs t true) y a ++ otherwise b (stmts_code sc (told_facts sc fs t false) y b)),
+          length-append (stmts_code sc (told_facts sc fs t true) y a) (otherwise b (stmts_code sc (told_facts sc fs t false) y b)),
         )
-    stmt_same (loop s t b) =
-        let eb = stmts_same b in
-        let e = ap (λ (n : ℕ). length (test_code sc t true ((2 ^ 16 - (max n 1 + length (test_code sc t true 0 8)) % 2 ^ 16) % 2 ^ 16) 8)) eb in
-        omega (arith, eb, e, length-append (stmts_code sc x b) (turn_code sc t (stmts_code sc x b)), length-append (stmts_code sc y b) (turn_code sc t (stmts_code sc y b)))
+    stmt_same fs (loop s t b) =
+        let eb = stmts_same (told_facts sc (turn_facts sc fs b) t true) b in
+        let e = ap (λ (n : ℕ). length (test_code sc (turn_facts sc fs b) t true ((2 ^ 16 - (max n 1 + length (test_code sc (turn_facts sc fs b) t true 0 8)) % 2 ^ 16) % 2 ^ 16) 8)) eb in
+        omega (arith, eb, e, length-append (stmts_code sc (told_facts sc (turn_facts sc fs b) t true) x b) (turn_code sc (turn_facts sc fs b) t (stmts_code sc (told_facts sc (turn_facts sc fs b) t true) x b)), length-append (stmts_code sc (told_facts sc (turn_facts sc fs b) t true) y b) (turn_code sc (turn_facts sc fs b) t (stmts_code sc (told_facts sc (turn_facts sc fs b) t true) y b)))
 
-    stmts_same : (ss : CStmts) → length (stmts_code sc x ss) ≡ length (stmts_code sc y ss)
-    stmts_same done = refl
-    stmts_same (next s rest) =
-        let e = stmt_same s in
-        let r = stmts_same rest in
-        omega (arith, e, r, length-append (stmt_code sc x s) (stmts_code sc x rest), length-append (stmt_code sc y s) (stmts_code sc y rest))
+    stmts_same : (fs : Facts) (ss : CStmts) → length (stmts_code sc fs x ss) ≡ length (stmts_code sc fs y ss)
+    stmts_same fs done = refl
+    stmts_same fs (next s rest) =
+        let e = stmt_same fs s in
+        let r = stmts_same (behind_stmt sc fs s) rest in
+        omega (arith, e, r, length-append (stmt_code sc fs x s) (stmts_code sc (behind_stmt sc fs s) x rest), length-append (stmt_code sc fs y s) (stmts_code sc (behind_stmt sc fs s) y rest))
 
   body_same : (params : ℕ) (b : CBody) → length (code_of_body sc x params b) ≡ length (code_of_body sc y params b)
   body_same params (code locals stmts answer) =
-      let e = stmts_same stmts in
+      let e = stmts_same (first_facts sc params) stmts in
       omega (
         arith,
         e,
-        length-append (entry_code (frame_setting sc) (is_cleared locals stmts answer) params (length locals) (all_words sc.env.structs (map typed_of locals)) (are_calling stmts)) (stmts_code sc x stmts ++ return_code sc (are_calling stmts) answer),
-        length-append (stmts_code sc x stmts) (return_code sc (are_calling stmts) answer),
-        length-append (entry_code (frame_setting sc) (is_cleared locals stmts answer) params (length locals) (all_words sc.env.structs (map typed_of locals)) (are_calling stmts)) (stmts_code sc y stmts ++ return_code sc (are_calling stmts) answer),
-        length-append (stmts_code sc y stmts) (return_code sc (are_calling stmts) answer),
+        length-append (entry_code (frame_setting sc (first_facts sc params)) (is_cleared locals stmts answer) params (length locals) (all_words sc.env.structs (map typed_of locals)) (are_calling stmts)) (stmts_code sc (first_facts sc params) x stmts ++ return_code sc (behind_stmts sc (first_facts sc params) stmts) (are_calling stmts) answer),
+        length-append (stmts_code sc (first_facts sc params) x stmts) (return_code sc (behind_stmts sc (first_facts sc params) stmts) (are_calling stmts) answer),
+        length-append (entry_code (frame_setting sc (first_facts sc params)) (is_cleared locals stmts answer) params (length locals) (all_words sc.env.structs (map typed_of locals)) (are_calling stmts)) (stmts_code sc (first_facts sc params) y stmts ++ return_code sc (behind_stmts sc (first_facts sc params) stmts) (are_calling stmts) answer),
+        length-append (stmts_code sc (first_facts sc params) y stmts) (return_code sc (behind_stmts sc (first_facts sc params) stmts) (are_calling stmts) answer),
       )
   body_same params (asm text span words) = refl
 
@@ -82,7 +84,7 @@ function_same sc x y f = body_same sc x y (length f.params) f.body
 
 module _ (sc : Scope) (x : Links) (fit : LengthsFit sc) where
   abbrev st : FrameSetting
-  st = frame_setting sc
+  st = frame_setting sc nothing_known
 
   -- code on a word of the frame
   framed : (f : ℕ → ℕ → Inst) (r i : ℕ) → length (access_code f r (frame_slot st i)) ≤ 3
@@ -205,9 +207,9 @@ module _ (sc : Scope) (x : Links) (fit : LengthsFit sc) where
   body_length : (params : ℕ) (b : CBody) → length (code_of_body sc x params b) ≤ 32 * (1 + params + body_nodes (length (words_held b)) b)
   body_length params (code locals stmts answer) =
       let e = entry_length (is_cleared locals stmts answer) params (length locals) (all_words sc.env.structs (map typed_of locals)) (are_calling stmts) in
-      let s = stmts_length sc x fit stmts in
-      let v = fit.value answer 2 8 in
-      let some = fit.value_some answer 2 8 in
+      let s = stmts_length sc x fit (first_facts sc params) stmts in
+      let v = fit.value (behind_stmts sc (first_facts sc params) stmts) answer 2 8 in
+      let some = fit.place (first_facts sc params) answer 8 in
       let r = exit_length (are_calling stmts) in
       omega (
         arith,
@@ -216,9 +218,9 @@ module _ (sc : Scope) (x : Links) (fit : LengthsFit sc) where
         v,
         some,
         r,
-        length-append (entry_code st (is_cleared locals stmts answer) params (length locals) (all_words sc.env.structs (map typed_of locals)) (are_calling stmts)) (stmts_code sc x stmts ++ return_code sc (are_calling stmts) answer),
-        length-append (stmts_code sc x stmts) (return_code sc (are_calling stmts) answer),
-        length-append (value_code sc answer 2 8) (exit_code st (are_calling stmts)),
+        length-append (entry_code st (is_cleared locals stmts answer) params (length locals) (all_words sc.env.structs (map typed_of locals)) (are_calling stmts)) (stmts_code sc (first_facts sc params) x stmts ++ return_code sc (behind_stmts sc (first_facts sc params) stmts) (are_calling stmts) answer),
+        length-append (stmts_code sc (first_facts sc params) x stmts) (return_code sc (behind_stmts sc (first_facts sc params) stmts) (are_calling stmts) answer),
+        length-append (value_code sc (behind_stmts sc (first_facts sc params) stmts) answer 2 8) (exit_code st (are_calling stmts)),
       )
   body_length params (asm text span words) =
       let t = test_length 1 in

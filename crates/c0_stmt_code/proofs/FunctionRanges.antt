@@ -1,7 +1,7 @@
 -- The instructions of the code of functions are in range: part by part.
-use Rattle.std.specs.Prelude.{map, if◌then◌else◌, nat_le, nat_lt, IsTrue, All, Option, Some, None, unwrap_or}
+use Rattle.std.specs.Prelude.{map, if◌then◌else◌, nat_le, nat_lt, IsTrue, All, Option, Some, None}
 use Rattle.std.specs.List.{All as EachOf}
-use Rattle.std.proofs.Common.{◌≡◌, inl, inr, ℕ, zero, suc, ◌+◌, ◌*◌, ◌/◌, ◌%◌, ◌^◌, ◌<◌, ◌≤◌, Bool, true, false, List, [], ◌∷◌, ◌++◌, length, refl, ap, subst, sym, arith}
+use Rattle.std.proofs.Common.{◌≡◌, inl, inr, ℕ, zero, suc, ◌+◌, ◌*◌, ◌/◌, ◌%◌, ◌^◌, ◌<◌, ◌≤◌, Bool, true, false, List, [], ◌∷◌, ◌++◌, length, refl, subst, sym, arith}
 use Rattle.std.proofs.lemmas.Bool.{cases_Bool, cond-true, cond-false, ltb-true}
 use Rattle.std.proofs.lemmas.List.Elements.{All-append, All-cons, All-head, All-nil, All-tail}
 use Rattle.mips_table.specs.declared.inst.Inst.{Inst}
@@ -20,12 +20,15 @@ use Rattle.c0_asm_body.specs.Code.{argument_code, arguments_code, asm_code, asm_
 use Rattle.c0_asm_body.specs.Laws.{AreEncoded}
 use Rattle.c0_typed.specs.Leaf.{are_calling}
 use Rattle.c0_expr_code.specs.Laws.{CodesInRange, HasNearExits}
+use Rattle.c0_expr_code.specs.declared.facts.Facts.{Facts}
+use Rattle.c0_expr_code.specs.Facts.{facts_called, nothing_known, overwritten, renewed}
 use Rattle.c0_expr_code.specs.Scope.{Scope}
 use Rattle.c0_expr_code.specs.FrameSetting.{FrameSetting, frame_back, frame_setting}
 use Rattle.c0_expr_code.specs.Code.{AddressingMode, is_near, low, high, register_of_variable, constant_code, access_code, store_code, operand_code, operand_register, made, value_code}
 use Rattle.c0_expr_code.specs.Test.{test_code}
 use Rattle.c0_stmt_code.specs.Live.{is_cleared}
-use Rattle.c0_stmt_code.specs.Code.{Links, callee_index, skip, stored_code, answer_code, assigned_code, args_code, otherwise, otherwise_at, back, turn_code, stmt_code, stmts_code, frame_slot, end_code, large_code, stack_test, save_code, restore_code, params_code, zeros_code, zeros_loop, locals_code, clear_code, frame_entry, frame_return, register_entry, register_return, entry_code, exit_code, return_code, body_code as code_of_body, zero_code, clear_one}
+use Rattle.c0_stmt_code.specs.Code.{Links, callee_index, skip, stored_code, answer_code, assigned_code, args_code, otherwise, otherwise_at, back, turn_code, stmt_code, stmts_code, frame_slot, end_code, large_code, stack_test, save_code, restore_code, params_code, zeros_code, zeros_loop, locals_code, clear_code, frame_entry, frame_return, register_entry, register_return, entry_code, exit_code, return_code, body_code as code_of_body, zero_code, clear_one, behind_stmt, behind_stmts, first_facts, told_facts, turn_facts}
+use Rattle.c0_stmt_code.proofs.RegisterVariables.{is_small}
 use Rattle.c0_stmt_code.specs.Emit.{IsEmittable, AreEmittable, IsEmittableBody}
 use Rattle.c0_stmt_code.specs.Ranges.{AreNear}
 
@@ -66,27 +69,23 @@ accesses f r x h b c i =
     (front (Addu r x.base 1) (f r (low x.displacement) ∷ []) (h, b, omega arith) (front (f r (low x.displacement)) [] (i r (low x.displacement) h (omega arith)) none))))
 
 module _ (sc : Scope) (x : Links) (codes : CodesInRange) (exits : HasNearExits sc) (near : AreNear x) where
-  -- a register in which a variable stands
-  stands : (e : CExpr) (q : ℕ) → need e ≤ 24 → (made sc e).stands ≡ Some q → q < 32
-  stands e q h is = let r = codes.register sc exits e 8 (omega (arith, h)) in let same = ap (λ (o : Option ℕ). unwrap_or o 8) is in omega (arith, r, same)
+  stored : (fs : Facts) (q r : ℕ) (p : CExpr) (o : Option ℕ) → q < 32 → r + need p ≤ 32 → ((y : ℕ) → o ≡ Some y → y < 32) → Fine (stored_code q r o (made sc fs p).place)
+  stored fs q r p (Some y) h room s = front (Addu y q 0) [] (s y refl, h, omega arith) none
+  stored fs q r p None h room s = codes.store sc exits fs p q r h room
 
-  stored : (q r : ℕ) (p : CExpr) (o : Option ℕ) → q < 32 → r + need p ≤ 32 → ((y : ℕ) → o ≡ Some y → y < 32) → Fine (stored_code q r o (made sc p).place)
-  stored q r p (Some y) h room s = front (Addu y q 0) [] (s y refl, h, omega arith) none
-  stored q r p None h room s = codes.store sc exits p q r h room
+  answer : (fs : Facts) (p : CExpr) → need p ≤ 12 → Fine (answer_code sc fs p)
+  answer fs p h = stored fs 2 8 p (made sc fs p).register (omega arith) (omega (arith, h)) (λ y e. is_small sc fs p y e)
 
-  answer : (p : CExpr) → need p ≤ 12 → Fine (answer_code sc p)
-  answer p h = stored 2 8 p (made sc p).stands (omega arith) (omega (arith, h)) (λ y e. stands p y (omega (arith, h)) e)
+  assigned : (fs : Facts) (p v : CExpr) (o : Option ℕ) → need p ≤ 11 → need v ≤ 12 → ((y : ℕ) → o ≡ Some y → y < 32) → Fine (assigned_code o (made sc fs p) (made sc fs v))
+  assigned fs p v (Some y) h g s = codes.value sc exits fs v y 8 (s y refl) (omega (arith, g))
+  assigned fs p v None h g s =
+      both (operand_code (made sc fs v) 8) (store_code (operand_register (made sc fs v) 8) 9 ((made sc fs p).place 9)) (codes.operand sc exits fs v 8 (omega (arith, g)))
+      (codes.store sc exits fs p (operand_register (made sc fs v) 8) 9 (codes.register sc exits fs v 8 (omega (arith, g))) (omega (arith, h)))
 
-  assigned : (p v : CExpr) (o : Option ℕ) → need p ≤ 11 → need v ≤ 12 → ((y : ℕ) → o ≡ Some y → y < 32) → Fine (assigned_code o (made sc p) (made sc v))
-  assigned p v (Some y) h g s = codes.value sc exits v y 8 (s y refl) (omega (arith, g))
-  assigned p v None h g s =
-      both (operand_code (made sc v) 8) (store_code (operand_register (made sc v) 8) 9 ((made sc p).place 9)) (codes.operand sc exits v 8 (omega (arith, g)))
-      (codes.store sc exits p (operand_register (made sc v) 8) 9 (codes.register sc exits v 8 (omega (arith, g))) (omega (arith, h)))
-
-  args : (es : List CExpr) (i : ℕ) → EachOf (λ e. need e ≤ 12) es → Fine (args_code sc es i)
-  args [] i h = none
-  args (e ∷ es) i h =
-      both (value_code sc e (register_of_variable i) 8) (args_code sc es (suc i)) (codes.value sc exits e (register_of_variable i) 8 (omega arith) (let r = All-head (λ e. need e ≤ 12) e es h in omega (arith, r))) (args es (suc i) (All-tail (λ e. need e ≤ 12) e es h))
+  args : (fs : Facts) (es : List CExpr) (i : ℕ) → EachOf (λ e. need e ≤ 12) es → Fine (args_code sc fs es i)
+  args fs [] i h = none
+  args fs (e ∷ es) i h =
+      both (value_code sc fs e (register_of_variable i) 8) (args_code sc (overwritten fs i) es (suc i)) (codes.value sc exits fs e (register_of_variable i) 8 (omega arith) (let r = All-head (λ e. need e ≤ 12) e es h in omega (arith, r))) (args (overwritten fs i) es (suc i) (All-tail (λ e. need e ≤ 12) e es h))
 
   callees : (k : Kind) (n : ℕ) → callee_index x k n < 2 ^ 26
   callees Unresolved n = omega arith
@@ -102,30 +101,30 @@ module _ (sc : Scope) (x : Links) (codes : CodesInRange) (exits : HasNearExits s
   others (next s rest) is h = front (skip (length is)) is (omega arith, omega arith, omega arith) h
 
   mutual
-    statement : (t : CStmt) → IsEmittable t → Fine (stmt_code sc x t)
-    statement (assign s p v) h =
+    statement : (fs : Facts) (t : CStmt) → IsEmittable t → Fine (stmt_code sc fs x t)
+    statement fs (assign s p v) h =
         let hp = h.0 in
         let hv = h.1 in
-        assigned p v (made sc p).stands hp hv (λ y e. stands p y (omega (arith, hp)) e)
-    statement (call s p cs f as_) h =
-        both (args_code sc as_ 0) (Jal (callee_index x f.kind f.number) ∷ answer_code sc p) (args as_ 0 h.1) (front (Jal (callee_index x f.kind f.number)) (answer_code sc p) (callees f.kind f.number) (answer p h.0))
-    statement (new s p t ts) h =
-        both (constant_code 2 (words sc.env.structs (ty_of t) % 2 ^ 32)) (Jal x.new_object ∷ answer_code sc p) (constants 2 (words sc.env.structs (ty_of t) % 2 ^ 32) (omega arith)) (front (Jal x.new_object) (answer_code sc p) near.new_object (answer p h))
-    statement (choice s t a b) h =
+        assigned fs p v (made sc fs p).register hp hv (λ y e. is_small sc fs p y e)
+    statement fs (call s p cs f as_) h =
+        both (args_code sc fs as_ 0) (Jal (callee_index x f.kind f.number) ∷ answer_code sc (facts_called fs) p) (args fs as_ 0 h.1) (front (Jal (callee_index x f.kind f.number)) (answer_code sc (facts_called fs) p) (callees f.kind f.number) (answer (facts_called fs) p h.0))
+    statement fs (new s p t ts) h =
+        both (constant_code 2 (words sc.env.structs (ty_of t) % 2 ^ 32)) (Jal x.new_object ∷ answer_code sc (renewed fs) p) (constants 2 (words sc.env.structs (ty_of t) % 2 ^ 32) (omega arith)) (front (Jal x.new_object) (answer_code sc (renewed fs) p) near.new_object (answer (renewed fs) p h))
+    statement fs (choice s t a b) h =
         let r = h.0 in
-        both (test_code sc t false ((length (stmts_code sc x a) + otherwise_at b) % 2 ^ 16) 8) (stmts_code sc x a ++ otherwise b (stmts_code sc x b)) (codes.test sc exits t false ((length (stmts_code sc x a) + otherwise_at b) % 2 ^ 16) 8 (omega arith) (omega (arith, r)))
-        (both (stmts_code sc x a) (otherwise b (stmts_code sc x b)) (statements a h.1) (others b (stmts_code sc x b) (statements b h.2)))
-    statement (loop s t b) h =
+        both (test_code sc fs t false ((length (stmts_code sc (told_facts sc fs t true) x a) + otherwise_at b) % 2 ^ 16) 8) (stmts_code sc (told_facts sc fs t true) x a ++ otherwise b (stmts_code sc (told_facts sc fs t false) x b)) (codes.test sc exits fs t false ((length (stmts_code sc (told_facts sc fs t true) x a) + otherwise_at b) % 2 ^ 16) 8 (omega arith) (omega (arith, r)))
+        (both (stmts_code sc (told_facts sc fs t true) x a) (otherwise b (stmts_code sc (told_facts sc fs t false) x b)) (statements (told_facts sc fs t true) a h.1) (others b (stmts_code sc (told_facts sc fs t false) x b) (statements (told_facts sc fs t false) b h.2)))
+    statement fs (loop s t b) h =
         let r = h.0 in
-        front (skip (length (stmts_code sc x b))) (stmts_code sc x b ++ turn_code sc t (stmts_code sc x b)) (omega arith, omega arith, omega arith)
-        (both (stmts_code sc x b) (turn_code sc t (stmts_code sc x b)) (statements b h.1) (codes.test sc exits t true (back sc t (stmts_code sc x b)) 8 (omega arith) (omega (arith, r))))
+        front (skip (length (stmts_code sc (told_facts sc (turn_facts sc fs b) t true) x b))) (stmts_code sc (told_facts sc (turn_facts sc fs b) t true) x b ++ turn_code sc (turn_facts sc fs b) t (stmts_code sc (told_facts sc (turn_facts sc fs b) t true) x b)) (omega arith, omega arith, omega arith)
+        (both (stmts_code sc (told_facts sc (turn_facts sc fs b) t true) x b) (turn_code sc (turn_facts sc fs b) t (stmts_code sc (told_facts sc (turn_facts sc fs b) t true) x b)) (statements (told_facts sc (turn_facts sc fs b) t true) b h.1) (codes.test sc exits (turn_facts sc fs b) t true (back sc (turn_facts sc fs b) t (stmts_code sc (told_facts sc (turn_facts sc fs b) t true) x b)) 8 (omega arith) (omega (arith, r))))
 
-    statements : (ss : CStmts) → AreEmittable ss → Fine (stmts_code sc x ss)
-    statements done h = none
-    statements (next s rest) h = both (stmt_code sc x s) (stmts_code sc x rest) (statement s h.0) (statements rest h.1)
+    statements : (fs : Facts) (ss : CStmts) → AreEmittable ss → Fine (stmts_code sc fs x ss)
+    statements fs done h = none
+    statements fs (next s rest) h = both (stmt_code sc fs x s) (stmts_code sc (behind_stmt sc fs s) x rest) (statement fs s h.0) (statements (behind_stmt sc fs s) rest h.1)
 
   abbrev st : FrameSetting
-  st = frame_setting sc
+  st = frame_setting sc nothing_known
 
   -- code on a word of the frame
   framed : (f : ℕ → ℕ → Inst) (r i : ℕ) → r < 32 → ((b k : ℕ) → b < 32 → k < 2 ^ 16 → InRange (f b k)) → Fine (access_code f r (frame_slot st i))
@@ -215,10 +214,10 @@ module _ (sc : Scope) (x : Links) (codes : CodesInRange) (exits : HasNearExits s
     pub body_fine : (params : ℕ) (b : CBody) → IsEmittableBody params b → Fine (code_of_body sc x params b)
     body_fine params (code locals stmts ans) h =
         let r = h.1 in
-        both (entry_code st (is_cleared locals stmts ans) params (length locals) (all_words sc.env.structs (map typed_of locals)) (are_calling stmts)) (stmts_code sc x stmts ++ return_code sc (are_calling stmts) ans)
+        both (entry_code st (is_cleared locals stmts ans) params (length locals) (all_words sc.env.structs (map typed_of locals)) (are_calling stmts)) (stmts_code sc (first_facts sc params) x stmts ++ return_code sc (behind_stmts sc (first_facts sc params) stmts) (are_calling stmts) ans)
         (begins (is_cleared locals stmts ans) params (length locals) (all_words sc.env.structs (map typed_of locals)) (are_calling stmts))
-        (both (stmts_code sc x stmts) (return_code sc (are_calling stmts) ans) (statements stmts h.0)
-        (both (value_code sc ans 2 8) (exit_code st (are_calling stmts)) (codes.value sc exits ans 2 8 (omega arith) (omega (arith, r))) (leaves (are_calling stmts))))
+        (both (stmts_code sc (first_facts sc params) x stmts) (return_code sc (behind_stmts sc (first_facts sc params) stmts) (are_calling stmts) ans) (statements (first_facts sc params) stmts h.0)
+        (both (value_code sc (behind_stmts sc (first_facts sc params) stmts) ans 2 8) (exit_code st (are_calling stmts)) (codes.value sc exits (behind_stmts sc (first_facts sc params) stmts) ans 2 8 (omega arith) (omega (arith, r))) (leaves (are_calling stmts))))
     body_fine params (asm text span ws) h =
         both (stack_test st 1) (asm_code params ws ++ (Jr 31 ∷ [])) (tests_stack 1 (omega arith))
         (both (asm_code params ws) (Jr 31 ∷ []) (both (arguments_code params) (asm_body_code ws) (arguments_fine params) (encoded ws h.1).range) returns_by)

@@ -3,7 +3,7 @@ use Rattle.std.specs.Prelude.{map, Some, None, Ok, Err, if◌then◌else◌}
 use Rattle.std.proofs.Common.{◌≡◌, ◌≢◌, ℕ, ◌+◌, ◌-◌, ◌*◌, ◌%◌, ◌^◌, ◌<◌, ◌≤◌, Bool, true, false, Option, List, [], ◌∷◌, ◌++◌, length, refl, sym, ap, ap₂, ◌∙◌, subst, arith}
 use Rattle.std.proofs.lemmas.Bool.{cond-true, cond-false}
 use Rattle.mips_table.specs.declared.inst.Inst.{Inst}
-use Rattle.mips_table.specs.declared.inst.Inst.TheVariants.{Lw, Sw, Jr}
+use Rattle.mips_table.specs.declared.inst.Inst.TheVariants.{Addiu, Lw, Sw, Jr}
 use Rattle.mips_table.specs.declared.effect.Effect.TheVariants.{Set}
 use Rattle.mips_table.specs.Device.{Idle}
 use Rattle.mips_table.specs.Code.{Contents, reg, with_reg, Behind, World, Sound, CodeState, at_with, Reaches, RunLaws, CodeAt}
@@ -15,7 +15,7 @@ use Rattle.c0_meaning.specs.Ty.{Ty, ty_of}
 use Rattle.c0_meaning.specs.Env.{typed_of}
 use Rattle.c0_meaning.specs.Sound.{shapes}
 use Rattle.c0_meaning.specs.Value.{Value}
-use Rattle.c0_meaning.specs.State.{Frame}
+use Rattle.c0_meaning.specs.State.{Frame, write}
 use Rattle.c0_meaning.specs.Evaluation.{Costed, costs, value_of}
 use Rattle.c0_meaning.specs.Operators.{faulted, stuck}
 use Rattle.c0_meaning.specs.World.{Cost, units, plus, Configuration, calls_ended}
@@ -26,24 +26,30 @@ use Rattle.c0_expr_code.specs.Scope.{Scope}
 use Rattle.c0_expr_code.specs.FrameSetting.{FrameSetting, frame_back, frame_setting}
 use Rattle.c0_expr_code.specs.Code.{access_code, low, made, value_code}
 use Rattle.c0_expr_code.specs.Relation.{KeepsRegisters, HoldsValue, Evaluates, Splits}
+use Rattle.c0_expr_code.specs.Bases.{word_of_scalar}
 use Rattle.c0_stmt_code.specs.Code.{frame_slot, end_code, restore_code, frame_return, register_return, exit_code, answer_code, stored_code}
 use Rattle.c0_stmt_code.specs.Setup.{Setup}
 use Rattle.c0_stmt_code.specs.Journey.{Led}
 use Rattle.c0_expr_code.specs.Reads.{reads, Covers}
-use Rattle.c0_stmt_code.specs.Ahead.{Activation, HasAnswerPlace, Block, Awaits, ReturnStands, Ahead, AnswerIsLive, WaitingAreLive}
+use Rattle.c0_stmt_code.specs.Ahead.{Activation, AnswerStands, Block, Awaits, ReturnStands, Ahead, AnswerIsLive, WaitingAreLive}
 use Rattle.c0_stmt_code.proofs.LiveAroundSteps.{AreLiveAtPlace}
 use Rattle.c0_stmt_code.specs.Standing.{code_text, scope, bases, end_of, unit_scope, word_of_value, Waiting, FunctionRuns, UnderWay, ConfigurationStands}
 use Rattle.c0_stmt_code.proofs.PremisesFromBelow.{HeldStays, TypedStays, FunctionsAre, LengthsFit}
-use Rattle.c0_stmt_code.proofs.RunStretches.{none, on, of}
-use Rattle.c0_stmt_code.proofs.WorkAsCode.{front, back}
+use Rattle.c0_stmt_code.proofs.RunStretches.{none, on, of, away}
+use Rattle.c0_stmt_code.proofs.WorkAsCode.{Goes, front, back}
 use Rattle.c0_stmt_code.proofs.UnitsWithinNodes.{value_within}
 use Rattle.c0_stmt_code.proofs.ValuesStay.{word_same}
-use Rattle.c0_stmt_code.proofs.ValuesToPlaces.{its_exprs, its_ready, store_in}
-use Rattle.c0_stmt_code.proofs.FunctionsUnderWay.{rest_of, state_of, standing_at, Exprs}
+use Rattle.c0_stmt_code.proofs.ValuesToPlaces.{IsKnown, its_exprs, its_ready, store_in}
+use Rattle.c0_stmt_code.proofs.FunctionsUnderWay.{its_facts, rest_of, state_of, standing_at, Exprs}
 use Rattle.c0_stmt_code.proofs.MemoryAccess.{other_reg, same_reg, read_is, like_read, place_steps, few_steps, on_place}
 use Rattle.c0_stmt_code.proofs.RegionsApart.{frame_words, frame_on, variables_same}
 use Rattle.c0_stmt_code.proofs.FrameMade.{frame_address, ends}
-use Rattle.c0_stmt_code.proofs.StepSimulation.{GoesOn, Path, stands_on, then_splits}
+use Rattle.c0_stmt_code.proofs.StepSimulation.{GoesOn, Path, stands_on, then_comes, then_splits}
+use Rattle.c0_typed.specs.Typed.{typed_of_expr}
+use Rattle.c0_stmt_code.specs.Behind.{stored_facts}
+use Rattle.c0_stmt_code.specs.Code.{answered_facts}
+use Rattle.c0_stmt_code.proofs.FactsKept.{answer_holds, facts_within, registers_forgotten}
+use Rattle.c0_stmt_code.proofs.MemoryAccess.{access_longer}
 
 -- the way back of a function that has a frame
 module _ (compose : RunsCompose) (w : World) (sound : Sound w) (straight : StraightRuns w) (jumps : JumpsLead w) where
@@ -82,8 +88,9 @@ module _ (compose : RunsCompose) (w : World) (sound : Sound w) (straight : Strai
         )) in
         (r.0, r.1, subst (λ m. Reaches w 3 (at_with m c d) (at_with (k + length (restore_code st true)) r.0 d)) (omega arith) (compose.later w (place_steps (frame_slot st 0)) 3 _ _ (few_steps (frame_slot st 0)) r.2))
 
+    -- by a jump that stands further on
     pub returns : (calling : Bool) (to k : ℕ) (c : Contents) (d : Behind) → d.pending ≡ Idle → c.regs 29 ≡ 4 * e → (if calling then c.memory (e - st.frame) else c.regs 31) ≡ 4 * to → CodeAt w k (frame_return st calling)
-        → (c' : Contents) × Returned (e - st.frame) c c' × Reaches w 7 (at_with k c d) (at_with to c' d)
+        → (c' : Contents) × Returned (e - st.frame) c c' × (m : ℕ) × (k ≢ m) × Reaches w 6 (at_with k c d) (at_with m c' d) × Reaches w 1 (at_with m c' d) (at_with to c' d)
     returns calling to k c d idle at is code =
         let tail : List Inst = end_code 29 (frame_back st) ++ (Jr 31 ∷ []) in
         let one = restores calling to k c d idle at is (front w k (restore_code st calling) (end_code 29 (frame_back st) ++ (Jr 31 ∷ [])) code) in
@@ -93,6 +100,7 @@ module _ (compose : RunsCompose) (w : World) (sound : Sound w) (straight : Strai
         let back_at = back w k1 (end_code 29 (frame_back st)) (Jr 31 ∷ []) behind in
         let address : reg two.0.regs 31 ≡ 4 * to = read_is two.0.regs 31 (λ q. absurd (omega (arith, q))) ∙ two.1.others 31 (λ q. absurd (omega (arith, q))) (λ q. absurd (omega (arith, q))) ∙ one.1.is in
         let three = led 31 (k1 + length (end_code 29 (frame_back st))) to two.0 d idle address back_at.0 in
+        let some_end = access_longer (λ b y. Addiu 29 b y) 29 (record { code = []; base = 29; displacement = frame_back st % 2 ^ 32 }) in
         let value : two.0.regs 29 ≡ 4 * (e - st.frame) = let i = two.1.is in sym (read_is two.0.regs 29 (λ q. absurd (omega (arith, q)))) ∙ i ∙ omega (arith, inside, small) in (
           two.0,
           record {
@@ -101,7 +109,10 @@ module _ (compose : RunsCompose) (w : World) (sound : Sound w) (straight : Strai
             special = two.1.special ∙ one.1.special;
             others = λ x n1 n29 n31. two.1.others x n1 n29 ∙ one.1.others x n1 n31;
           },
-          compose.joined w 3 4 _ _ _ one.2 (compose.joined w 3 1 _ _ _ two.2 three),
+          k1 + length (end_code 29 (frame_back st)),
+          (λ q. absurd (omega (arith, q, some_end))),
+          compose.joined w 3 3 _ _ _ one.2 two.2,
+          three,
         )
 
 -- the way back of a function whose variables stand in registers
@@ -179,6 +190,8 @@ module _ (runs : RunLaws) (compose : RunsCompose) (W E : Type 0) (Outer : W → 
       return_at = ap (λ y. if y then c'.memory (end_of W E Outer z frames) else c'.regs 31) w.0.calls ∙ ap (λ m. m (end_of W E Outer z frames)) memory ∙ w.0.return_at;
       frame_at = at ∙ sym (ap (λ y. 4 * (if y then end_of W E Outer z frames else end_of W E Outer z (q ∷ frames))) w.0.in_frame);
       variables = variables_same W E Outer z held objects b.live c.memory c'.regs c.memory c'.memory b.function q frames true w.0.in_frame w.0.is (λ x le lt. ap (λ m. m x) memory) w.0.variables;
+      registers = λ e. registers_forgotten (scope W E Outer z b.function) (bases W E Outer z objects (q ∷ frames)) b.facts c' w.0.forgotten;
+      sure = w.0.sure;
     },
     subst (λ m. Waiting W E Outer z objects m more frames) (sym memory) w.1,
   )
@@ -231,25 +244,24 @@ module _ (runs : RunLaws) (compose : RunsCompose) (W E : Type 0) (Outer : W → 
       by_target (b ∷ more) [] w target work ah lv e = absurd w
 
   -- a return from a function that has a frame
-  pub leaves : (result : CExpr) (target : Target) (work : List Work) → sc.in_registers ≡ false → ReturnStands (code_text W E Outer z) a.function k result
+  pub leaves : (result : CExpr) (target : Target) (work : List Work) → sc.in_registers ≡ false → ReturnStands (code_text W E Outer z) a.function a.facts k result
       → Awaits (code_text W E Outer z) others a.to debt (ty_of a.function.answer) target work (λ acts at left. Ahead (code_text W E Outer z) acts at left work)
       → Covers a.live (reads result) → AnswerIsLive others target work (λ below. WaitingAreLive below work)
       → GoesOn W E Outer z debt here (at_with k c d) (then_go (units 0) here (value_of result here.state) (λ cost v. deliver cost target v work there))
   leaves result target work form stands ahead cover live =
       let t : Ty = ty_of a.function.answer in
       let ex = its_exprs runs compose W E Outer z jumps straight held typing exprs objects gv hv hw g fs world calls answer c d a others st r waits in
-      let rd = its_ready runs compose W E Outer z jumps straight held typing exprs objects gv hv hw g fs world calls answer c d a others st r waits in
+      let rd = its_ready runs compose W E Outer z jumps straight held typing exprs objects gv hv hw g fs world calls answer c d a others st r waits a.facts (its_facts W E Outer z objects gv hv hw g fs c a r) in
       let scalar = functions.answers g.function a.function r.is in
-      let value = value_code sc result 2 8 in
-      let exit = exit_code (frame_setting sc) (calls_in a.function.body) in
+      let value = value_code sc a.facts result 2 8 in
+      let exit = exit_code (frame_setting sc a.facts) (calls_in a.function.body) in
       let deep = stands.test.shallow in
-      let some = (fit a.function).value_some result 2 8 in
-      let run = ex.value result (ty_of a.function.answer) stands.test.value scalar stands.few cover 2 8 k c d st.idle rd (front z.w k (value_code sc result 2 8) (exit_code (frame_setting sc) (calls_in a.function.body)) stands.code) (omega arith) (omega (arith, deep)) (λ q. absurd (omega (arith, q))) (λ q. absurd (omega (arith, q))) in
-      let k1 : ℕ = k + length (value_code sc result 2 8) in
-      let exit_is : exit_code (frame_setting sc) (calls_in a.function.body) ≡ frame_return (frame_setting sc) (calls_in a.function.body) = cond-false sc.in_registers (register_return (calls_in a.function.body)) (frame_return (frame_setting sc) (calls_in a.function.body)) form in
-      let exit_at = subst (CodeAt z.w k1) exit_is (back z.w k (value_code sc result 2 8) (exit_code (frame_setting sc) (calls_in a.function.body)) stands.code) in
-      then_splits runs compose W E Outer z jumps 0 0 0 debt 1 (nodes result) (units 0) here here (at_with k c d) a.function k (λ v. k1) c d objects (HoldsValue sc (bases W E Outer z objects (g ∷ fs)) 2 8 2 (ty_of a.function.answer) c) (value_of result here.state)
-      (λ cost v. deliver cost target v work there) (λ v q. absurd (omega (arith, q, some))) (none runs z.w (at_with k c d)) (omega arith) (omega arith) st (value_within result here.state) (comes_splits z.w sc 0 k k1 c d _ (value_of result here.state) run)
+      let run = ex.value a.facts result (ty_of a.function.answer) stands.test.value scalar stands.few cover 2 8 k c d st.idle rd (front z.w k (value_code sc a.facts result 2 8) (exit_code (frame_setting sc a.facts) (calls_in a.function.body)) stands.code) (omega arith) (omega (arith, deep)) (λ q. absurd (omega (arith, q))) (λ q. absurd (omega (arith, q))) in
+      let k1 : ℕ = k + length (value_code sc a.facts result 2 8) in
+      let exit_is : exit_code (frame_setting sc a.facts) (calls_in a.function.body) ≡ frame_return (frame_setting sc a.facts) (calls_in a.function.body) = cond-false sc.in_registers (register_return (calls_in a.function.body)) (frame_return (frame_setting sc a.facts) (calls_in a.function.body)) form in
+      let exit_at = subst (CodeAt z.w k1) exit_is (back z.w k (value_code sc a.facts result 2 8) (exit_code (frame_setting sc a.facts) (calls_in a.function.body)) stands.code) in
+      then_comes runs compose W E Outer z jumps 0 0 0 debt 1 (nodes result) (units 0) here here (at_with k c d) a.function k k1 c d objects (HoldsValue sc (bases W E Outer z objects (g ∷ fs)) 2 8 2 (ty_of a.function.answer) c) (value_of result here.state)
+      (λ cost v. deliver cost target v work there) (none runs z.w (at_with k c d)) (omega arith) (omega arith) st (value_within result here.state) run
       (λ u v c1 least most gives path.
       let fo = frame_on z.p.unit g fs a.function r.is in
       let ws = frame_words z.p.unit a.function in
@@ -262,38 +274,40 @@ module _ (runs : RunLaws) (compose : RunsCompose) (W E : Type 0) (Outer : W → 
       let at29 : c1.regs 29 ≡ 4 * end_of W E Outer z (g ∷ fs) = keeps.above 29 (λ q. absurd (omega (arith, q))) (omega arith) ∙ r.frame_at ∙ ap (λ y. 4 * (if y then end_of W E Outer z fs else end_of W E Outer z (g ∷ fs))) form in
       let address : (if calls_in a.function.body then c1.memory (end_of W E Outer z (g ∷ fs) - sc.frame) else c1.regs 31) ≡ 4 * a.to =
       ap₂ (λ m y. if calls_in a.function.body then m else y) (ap c1.memory base ∙ ap (λ m. m (end_of W E Outer z fs)) keeps.memory) (keeps.above 31 (λ q. absurd (omega (arith, q))) (omega arith)) ∙ r.return_at in
-      let back_there = returns compose z.w z.sound straight jumps (frame_setting sc) (end_of W E Outer z (g ∷ fs)) (omega (arith, fo)) (omega (arith, ws)) (omega (arith, o, sf, small)) (omega (arith, o, sf)) (calls_in a.function.body) a.to k1 c1 d st.idle at29 address exit_at in
+      let back_there = returns compose z.w z.sound straight jumps (frame_setting sc a.facts) (end_of W E Outer z (g ∷ fs)) (omega (arith, fo)) (omega (arith, ws)) (omega (arith, o, sf, small)) (omega (arith, o, sf)) (calls_in a.function.body) a.to k1 c1 d st.idle at29 address exit_at in
       let c2 : Contents = back_there.0 in
-      let way = on runs z.w (0 + 1) (0 + (0 + 16 * u)) 0 7 (at_with k c d) (at_with k1 c1 d) (at_with a.to back_there.0 d) path (of runs z.w 7 _ _ back_there.2) in
+      let last = away runs z.w 6 (at_with k1 c1 d) (at_with back_there.2 back_there.0 d) back_there.3 back_there.4 in
+      let whole = on runs z.w 1 6 0 1 (at_with k1 c1 d) (at_with back_there.2 back_there.0 d) (at_with a.to back_there.0 d) last (of runs z.w 1 _ _ back_there.5) in
+      let way = on runs z.w 0 (0 + (0 + 16 * u)) (1 + 0) (6 + 1) (at_with k c d) (at_with k1 c1 d) (at_with a.to back_there.0 d) path whole in
       let canonical = word_same (shapes z.p.unit) (map typed_of z.p.unit.globals) z.a.globals z.a.heap objects objects (λ path t h. refl) (rest_of (unit_scope z.p.unit)) (rest_of sc) (end_of W E Outer z []) (end_of W E Outer z (g ∷ fs)) (ty_of a.function.answer) v gives.fits in
-      delivers (0 + 1 + 0) (0 + (0 + 16 * u) + 7) (plus (units 0) (units u)) here (at_with k c d) target v work (ty_of a.function.answer) back_there.0 way (omega (arith, most, few_nodes stands)) (omega (arith, least)) (omega arith)
+      delivers (0 + (1 + 0)) (0 + (0 + 16 * u) + (6 + 1)) (plus (units 0) (units u)) here (at_with k c d) target v work (ty_of a.function.answer) back_there.0 way (omega (arith, most, few_nodes stands)) (omega (arith, least)) (omega arith)
       (back_there.1.memory ∙ keeps.memory) (back_there.1.special ∙ keeps.special)
       (back_there.1.others 28 (λ q. absurd (omega (arith, q))) (λ q. absurd (omega (arith, q))) (λ q. absurd (omega (arith, q))) ∙ keeps.above 28 (λ q. absurd (omega (arith, q))) (omega arith))
       (back_there.1.others 30 (λ q. absurd (omega (arith, q))) (λ q. absurd (omega (arith, q))) (λ q. absurd (omega (arith, q))) ∙ keeps.above 30 (λ q. absurd (omega (arith, q))) (omega arith))
       (back_there.1.frame_at ∙ ap (λ y. 4 * y) base) gives.fits
       (back_there.1.others 2 (λ q. absurd (omega (arith, q))) (λ q. absurd (omega (arith, q))) (λ q. absurd (omega (arith, q))) ∙ sym (read_is c1.regs 2 (λ q. absurd (omega (arith, q)))) ∙ gives.is ∙ canonical) ahead live)
     where
-      few_nodes : ReturnStands (code_text W E Outer z) a.function k result → nodes result ≤ 2000
+      few_nodes : ReturnStands (code_text W E Outer z) a.function a.facts k result → nodes result ≤ 2000
       few_nodes h = h.few
 
   -- a return from a function whose variables stand in registers
-  pub leaves_light : (result : CExpr) (target : Target) (work : List Work) → sc.in_registers ≡ true → ReturnStands (code_text W E Outer z) a.function k result
+  pub leaves_light : (result : CExpr) (target : Target) (work : List Work) → sc.in_registers ≡ true → ReturnStands (code_text W E Outer z) a.function a.facts k result
       → Awaits (code_text W E Outer z) others a.to debt (ty_of a.function.answer) target work (λ acts at left. Ahead (code_text W E Outer z) acts at left work)
       → Covers a.live (reads result) → AnswerIsLive others target work (λ below. WaitingAreLive below work)
       → GoesOn W E Outer z debt here (at_with k c d) (then_go (units 0) here (value_of result here.state) (λ cost v. deliver cost target v work there))
   leaves_light result target work form stands ahead cover live =
       let t : Ty = ty_of a.function.answer in
       let ex = its_exprs runs compose W E Outer z jumps straight held typing exprs objects gv hv hw g fs world calls answer c d a others st r waits in
-      let rd = its_ready runs compose W E Outer z jumps straight held typing exprs objects gv hv hw g fs world calls answer c d a others st r waits in
+      let rd = its_ready runs compose W E Outer z jumps straight held typing exprs objects gv hv hw g fs world calls answer c d a others st r waits a.facts (its_facts W E Outer z objects gv hv hw g fs c a r) in
       let scalar = functions.answers g.function a.function r.is in
-      let value = value_code sc result 2 8 in
-      let exit = exit_code (frame_setting sc) (calls_in a.function.body) in
+      let value = value_code sc a.facts result 2 8 in
+      let exit = exit_code (frame_setting sc a.facts) (calls_in a.function.body) in
       let deep = stands.test.shallow in
-      let some = (fit a.function).value_some result 2 8 in
-      let run = ex.value result (ty_of a.function.answer) stands.test.value scalar stands.few cover 2 8 k c d st.idle rd (front z.w k (value_code sc result 2 8) (exit_code (frame_setting sc) (calls_in a.function.body)) stands.code) (omega arith) (omega (arith, deep)) (λ q. absurd (omega (arith, q))) (λ q. absurd (omega (arith, q))) in
-      let k1 : ℕ = k + length (value_code sc result 2 8) in
-      let exit_is : exit_code (frame_setting sc) (calls_in a.function.body) ≡ register_return (calls_in a.function.body) = cond-true sc.in_registers (register_return (calls_in a.function.body)) (frame_return (frame_setting sc) (calls_in a.function.body)) form in
-      let exit_at = subst (CodeAt z.w k1) exit_is (back z.w k (value_code sc result 2 8) (exit_code (frame_setting sc) (calls_in a.function.body)) stands.code) in
+      let some = (fit a.function).value_some form a.facts result 2 8 in
+      let run = ex.value a.facts result (ty_of a.function.answer) stands.test.value scalar stands.few cover 2 8 k c d st.idle rd (front z.w k (value_code sc a.facts result 2 8) (exit_code (frame_setting sc a.facts) (calls_in a.function.body)) stands.code) (omega arith) (omega (arith, deep)) (λ q. absurd (omega (arith, q))) (λ q. absurd (omega (arith, q))) in
+      let k1 : ℕ = k + length (value_code sc a.facts result 2 8) in
+      let exit_is : exit_code (frame_setting sc a.facts) (calls_in a.function.body) ≡ register_return (calls_in a.function.body) = cond-true sc.in_registers (register_return (calls_in a.function.body)) (frame_return (frame_setting sc a.facts) (calls_in a.function.body)) form in
+      let exit_at = subst (CodeAt z.w k1) exit_is (back z.w k (value_code sc a.facts result 2 8) (exit_code (frame_setting sc a.facts) (calls_in a.function.body)) stands.code) in
       then_splits runs compose W E Outer z jumps 0 0 0 debt 1 (nodes result) (units 0) here here (at_with k c d) a.function k (λ v. k1) c d objects (HoldsValue sc (bases W E Outer z objects (g ∷ fs)) 2 8 2 (ty_of a.function.answer) c) (value_of result here.state)
       (λ cost v. deliver cost target v work there) (λ v q. absurd (omega (arith, q, some))) (none runs z.w (at_with k c d)) (omega arith) (omega arith) st (value_within result here.state) (comes_splits z.w sc 0 k k1 c d _ (value_of result here.state) run)
       (λ u v c1 least most gives path.
@@ -318,19 +332,27 @@ module _ (runs : RunLaws) (compose : RunsCompose) (W E : Type 0) (Outer : W → 
       (back_there.1.others 29 (λ q. absurd (omega (arith, q))) ∙ at29) gives.fits
       (back_there.1.others 2 (λ q. absurd (omega (arith, q))) ∙ sym (read_is c1.regs 2 (λ q. absurd (omega (arith, q)))) ∙ gives.is ∙ canonical) ahead live)
     where
-      few_nodes : ReturnStands (code_text W E Outer z) a.function k result → nodes result ≤ 2000
+      few_nodes : ReturnStands (code_text W E Outer z) a.function a.facts k result → nodes result ≤ 2000
       few_nodes h = h.few
 
   -- an answer goes to a place in memory
-  pub finishes : (place : CExpr) (v : Value) (rest : CStmts) (work : List Work) (t : Ty) → Fits (shapes z.p.unit) (store_typing z.p.unit objects) t v → c.regs 2 ≡ word_of_value W E Outer z objects v → (made sc place).stands ≡ None
-      → HasAnswerPlace (code_text W E Outer z) a.function place t → CodeAt z.w k (answer_code sc place) → Block (code_text W E Outer z) a.function (k + length (answer_code sc place)) debt rest (λ to left. Ahead (code_text W E Outer z) (a ∷ others) to left work)
+  pub finishes : (place : CExpr) (v : Value) (rest : CStmts) (work : List Work) (t : Ty) → Fits (shapes z.p.unit) (store_typing z.p.unit objects) t v → c.regs 2 ≡ word_of_value W E Outer z objects v → (h : AnswerStands (code_text W E Outer z) a.function a.facts k place t) → (made sc h.before place).register ≡ None
+      → Block (code_text W E Outer z) a.function h.behind (k + length (answer_code sc h.before place)) debt rest (λ fs to left. Goes (code_text W E Outer z) a others work fs to left)
       → AreLiveAtPlace a.live others place rest work → GoesOn W E Outer z debt here (at_with k c d) (store (units 0) place v rest work here)
-  finishes place v rest work t fits is stands answered code block live =
-      let same : answer_code sc place ≡ access_code (λ b y. Sw 2 b y) 8 ((made sc place).place 8) = ap (λ o. stored_code 2 8 o (made sc place).place) stands in
-      let shallow = answered.shallow in
-      let few = answered.few in
+  finishes place v rest work t fits is h stands block live =
+      let same : answer_code sc h.before place ≡ access_code (λ b y. Sw 2 b y) 8 ((made sc h.before place).place 8) = ap (λ o. stored_code 2 8 o (made sc h.before place).place) stands in
+      let shallow = h.there.shallow in
+      let few = h.there.few in
       let canonical = word_same (shapes z.p.unit) (map typed_of z.p.unit.globals) z.a.globals z.a.heap objects objects (λ path t h. refl) (rest_of (unit_scope z.p.unit)) (rest_of sc) (end_of W E Outer z []) (end_of W E Outer z (g ∷ fs)) t v fits in
-      store_in runs compose W E Outer z jumps straight held typing exprs objects gv hv hw g fs world calls answer c d a others st r waits 0 debt debt 8 2 k (units 0) here (at_with k c d) place t v rest work (none runs z.w (at_with k c d))
+      store_in runs compose W E Outer z jumps straight held typing exprs objects gv hv hw g fs world calls answer c d a others st r waits 0 debt debt 8 2 k (units 0) here (at_with k c d) place t v rest work h.before h.behind h.fewer becomes (none runs z.w (at_with k c d))
       (omega arith) (omega arith) (omega (arith, few)) (omega (arith, few)) (omega arith) (omega arith) (omega (arith, shallow)) (omega arith) (λ q. absurd (omega (arith, q))) (λ q. absurd (omega (arith, q)))
-      (λ b kept. like_read b.regs c.regs 2 (kept.below 2 (λ q. absurd (omega (arith, q))) (λ q. absurd (omega (arith, q))) (omega arith))) (read_is c.regs 2 (λ q. absurd (omega (arith, q))) ∙ is ∙ sym canonical) fits answered.left stands
-      (subst (CodeAt z.w k) same code) (subst (λ is. Block (code_text W E Outer z) a.function (k + length is) debt rest (λ to left. Ahead (code_text W E Outer z) (a ∷ others) to left work)) same block) live
+      (λ b kept. like_read b.regs c.regs 2 (kept.below 2 (λ q. absurd (omega (arith, q))) (λ q. absurd (omega (arith, q))) (omega arith))) (read_is c.regs 2 (λ q. absurd (omega (arith, q))) ∙ is ∙ sym canonical) fits h.there.left stands
+      (subst (CodeAt z.w k) same h.code) (subst (λ is. Block (code_text W E Outer z) a.function h.behind (k + length is) debt rest (λ fs to left. Goes (code_text W E Outer z) a others work fs to left)) same block) live
+    where
+      canonical_word : word_of_value W E Outer z objects v ≡ word_of_scalar sc (bases W E Outer z objects (g ∷ fs)) v
+      canonical_word = sym (word_same (shapes z.p.unit) (map typed_of z.p.unit.globals) z.a.globals z.a.heap objects objects (λ path t h. refl) (rest_of (unit_scope z.p.unit)) (rest_of sc) (end_of W E Outer z []) (end_of W E Outer z (g ∷ fs)) t v fits)
+
+      becomes : IsKnown runs compose W E Outer z jumps straight held typing exprs objects gv hv hw g fs world calls answer c d a others st r waits place v h.behind
+      becomes l b placed facts =
+          facts_within sc (bases W E Outer z objects (g ∷ fs)) h.behind (answered_facts sc a.facts place) (write here.state l v) b h.later
+          (answer_holds sc (bases W E Outer z objects (g ∷ fs)) place (stored_facts (typed_of_expr sc.env place) a.facts) here.state (write here.state l v) placed.units l b h.there.left.place placed.found (placed.register ∙ is ∙ canonical_word ∙ sym placed.is) facts)

@@ -18,7 +18,7 @@ use Rattle.c0_expr_code.specs.FrameSetting.{frame_setting}
 use Rattle.c0_expr_code.specs.Laws.{HaveSameNames, NamesAreEnough}
 use Rattle.c0_expr_code.specs.Node.{NodesAreMade}
 use Rattle.c0_expr_code.specs.Scope.{Scope, exit_of, scope_of}
-use Rattle.c0_stmt_code.specs.Code.{Links, body_code, entry_code, exit_code, function_code, links_of}
+use Rattle.c0_stmt_code.specs.Code.{Links, behind_stmts, body_code, entry_code, exit_code, first_facts, function_code, links_of}
 use Rattle.c0_stmt_code.specs.TypedFunction.{typed_body_code, typed_function_code}
 use Rattle.c0_stmt_code.specs.TypedLaws.{StatementsAreMade}
 use Rattle.c0_stmt_code.proofs.PremisesFromBelow.{FunctionsAre}
@@ -32,11 +32,11 @@ count_same sc locals = sym (length-map locals (typed_of_local sc.env.structs))
 module _ (statements : StatementsAreMade) (nodes : NodesAreMade) (names : NamesAreEnough) (sc : Scope) (x : Links) (env : Env) (same : HaveSameNames env sc.env) where
   -- a body whose statements and answer are typed
   statements_code : (params : ℕ) (locals : List CDecl) (stmts : CStmts) (answer : CExpr) (t : Ty) → AreNumbered env stmts → IsNumberedGiven env answer t
-      → body_code sc x params (code locals stmts answer) ≡ typed_body_code (frame_setting sc) x params (are_calling stmts) (typed_of_body sc.env (code locals stmts answer))
+      → body_code sc x params (code locals stmts answer) ≡ typed_body_code (frame_setting sc (first_facts sc params)) x params (are_calling stmts) (typed_of_body sc.env (code locals stmts answer))
   statements_code params locals stmts answer t typed given = λ j.
-      entry_code (frame_setting sc) (cleared_same sc.env locals stmts answer j) params (count_same sc locals j) (words_same sc.env.structs locals j) (are_calling stmts)
-      ++ (statements sc x env stmts same typed j
-      ++ ((nodes.nodes sc answer t (given_in names env sc.env same answer t given)).value ANSWER EXPRESSIONS j ++ exit_code (frame_setting sc) (are_calling stmts)))
+      entry_code (frame_setting sc (first_facts sc params)) (cleared_same sc.env locals stmts answer j) params (count_same sc locals j) (words_same sc.env.structs locals j) (are_calling stmts)
+      ++ (statements sc (first_facts sc params) x env stmts same typed j
+      ++ ((nodes.nodes sc (behind_stmts sc (first_facts sc params) stmts) answer t (given_in names env sc.env same answer t given)).value ANSWER EXPRESSIONS j ++ exit_code (frame_setting sc (first_facts sc params)) (are_calling stmts)))
 
 pub function_made : StatementsAreMade → NodesAreMade → NamesAreEnough → NumbersTell → UnitsAreFaultless → (primitives : List CPrimitive) (u : CUnit) (n : ℕ) (f : CFunction) (addresses : CodeAddresses)
     → IsWellFormed primitives u → slice_get u.functions n ≡ Some f
@@ -52,7 +52,7 @@ function_made statements nodes names numbers faultless primitives u n f addresse
 
     by_body : (b : CBody) → f.body ≡ b
         → body_code (scope_of u f addresses) (links_of addresses) (length f.params) b
-        ≡ typed_body_code (frame_setting (scope_of u f addresses)) (links_of addresses) (length f.params) (calls_in b) (typed_of_body (scope_of u f addresses).env b)
+        ≡ typed_body_code (frame_setting (scope_of u f addresses) (first_facts (scope_of u f addresses) (length f.params))) (links_of addresses) (length f.params) (calls_in b) (typed_of_body (scope_of u f addresses).env b)
     by_body (code locals stmts answer) e =
         let typed = are.typed n f locals stmts answer is e in
         statements_code statements nodes names (scope_of u f addresses) (links_of addresses) (env_of primitives u (f.params ++ locals_of f.body)) same (length f.params) locals stmts answer (ty_of f.answer) typed.0 typed.1.value

@@ -1,10 +1,10 @@
 -- The heap with an object more: where its words lie, and that what stood before stands as it did.
-use Rattle.std.specs.Prelude.{map, slice_get, unwrap_or, Some, if◌then◌else◌, nat_lt, nat_le, ◌&&◌}
+use Rattle.std.specs.Prelude.{map, slice_get, get_or, unwrap_or, Some, if◌then◌else◌, nat_lt, nat_le, ◌&&◌}
 use Rattle.std.specs.List.{All, list_all}
 use Rattle.std.proofs.lemmas.List.Elements.{All-head, All-tail}
 use Rattle.std.proofs.lemmas.Bool.{cases_Bool, and_parts, leb-true, ltb-true, ltb-false}
 use Rattle.std.proofs.Common.{◌≡◌, ◌≢◌, inl, inr, ℕ, zero, suc, ◌+◌, ◌-◌, ◌<◌, ◌≤◌, ◌⊎◌, Bool, true, false, Option, List, [], ◌∷◌, ◌++◌, length, refl, sym, ap, ap₂, ◌∙◌, subst, arith}
-use Rattle.mips_table.specs.Code.{Contents, Behind, CodeState}
+use Rattle.mips_table.specs.Code.{Contents, Behind}
 use Rattle.c0_tree.specs.Tree.{CTy, CFunction}
 use Rattle.c0_meaning.specs.Ty.{Ty, ty_of, named, is_scalar}
 use Rattle.c0_meaning.specs.Ty as ty
@@ -19,9 +19,12 @@ use Rattle.c0_meaning.specs.Value.{Value, int, bool, null, at, group, Values, em
 use Rattle.c0_meaning.specs.State.{Frame}
 use Rattle.c0_meaning.specs.TypedState.{StoreTyping, types_of, LeadsFrom, AllFit, AreParts, variable_types, IsTypedFrame, store_typing}
 use Rattle.c0_typed.specs.Leaf.{calls_in, is_leaf}
-use Rattle.c0_expr_code.specs.Bases.{words_of_all, RegionHeld, LocalsHeld}
+use Rattle.c0_expr_code.specs.declared.facts.Facts.{Facts}
+use Rattle.c0_expr_code.specs.Facts.{renewed}
+use Rattle.c0_expr_code.specs.Bases.{words_of_all, locals_start, RegionHeld, LocalsHeld}
+use Rattle.c0_expr_code.specs.Relation.{RegistersHold}
 use Rattle.c0_stmt_code.specs.Setup.{Setup}
-use Rattle.c0_stmt_code.specs.Ahead.{Activation}
+use Rattle.c0_stmt_code.specs.Ahead.{Activation, knowing}
 use Rattle.c0_stmt_code.specs.Standing.{scope, bases, end_of, unit_scope, VariablesHeld, Waiting, FunctionRuns, UnderWay, ConfigurationStands}
 use Rattle.c0_stmt_code.proofs.PremisesFromBelow.{HeldStays, TypedStays}
 use Rattle.c0_stmt_code.proofs.ValuesStay.{region}
@@ -102,15 +105,40 @@ module _ (W E : Type 0) (Outer : W → Contents → Behind → Type 0) (z : Setu
       by_form false form v = let on = frame_on z.p.unit g fs f is in
           held.same_locals (scope W E Outer z f) (bases W E Outer z objects (g ∷ fs)) live c.memory c'.memory ((end_of W E Outer z (g ∷ fs) - words_of_frame (shapes z.p.unit) f) + 3) (types_of (scope W E Outer z f).env.locals) g.variables refl (λ x le lt. memory x (omega (arith, on, le))) v
 
+  -- parameters stand in their registers while these and the frame's words stay
+  registers_kept : (c c' : Contents) (f : CFunction) (g : Frame) (fs : List Frame) (known : Facts) → slice_get z.p.unit.functions g.function ≡ Some f → ((x : ℕ) → 20 ≤ x → x < 31 → c'.regs x ≡ c.regs x) → ((x : ℕ) → z.a.stack ≤ x → c'.memory x ≡ c.memory x) → (scope W E Outer z f).in_registers ≡ false
+      → RegistersHold (scope W E Outer z f) (bases W E Outer z objects (g ∷ fs)) known c → RegistersHold (scope W E Outer z f) (bases W E Outer z objects (g ∷ fs)) (renewed known) c'
+  registers_kept c c' f g fs known is regs memory form h = record {
+    params = λ n y t there scalar.
+        let few = few_of n (and_parts (nat_lt n 8) (get_or known.params n false) y).0 in
+        regs (20 + n) (omega arith) (omega (arith, few)) ∙ h.params n y t there scalar ∙ sym (memory (locals_start (scope W E Outer z f) (bases W E Outer z objects (g ∷ fs)) + words_before (shapes z.p.unit) (types_of (scope W E Outer z f).env.locals) n) (in_frame n));
+    answer = λ n y. absurd (none y);
+  }
+    where
+      none : false ≡ true → ⊥
+      none q = cc
+
+      few_of : (n : ℕ) → nat_lt n 8 ≡ true → n < 8
+      few_of n q = ltb-true n 8 q
+
+      in_frame : (n : ℕ) → z.a.stack ≤ locals_start (scope W E Outer z f) (bases W E Outer z objects (g ∷ fs)) + words_before (shapes z.p.unit) (types_of (scope W E Outer z f).env.locals) n
+      in_frame n = by_form (scope W E Outer z f).in_registers form
+        where
+          by_form : (b : Bool) → b ≡ false → z.a.stack ≤ (if b then 20 else (end_of W E Outer z (g ∷ fs) - words_of_frame (shapes z.p.unit) f) + 3) + words_before (shapes z.p.unit) (types_of (scope W E Outer z f).env.locals) n
+          by_form true q = absurd (cc)
+          by_form false q = let on = frame_on z.p.unit g fs f is in omega (arith, on)
+
   -- the functions under way stay so under code that calls a routine, where the one that runs keeps its return address in its frame
   pub under_kept : (c c' : Contents) (a : Activation) (others : List Activation) (g : Frame) (fs : List Frame) → calls_in a.function.body ≡ true → ((x : ℕ) → 20 ≤ x → x < 31 → c'.regs x ≡ c.regs x) → ((x : ℕ) → z.a.stack ≤ x → c'.memory x ≡ c.memory x)
-      → FunctionRuns W E Outer z objects c a g fs → Waiting W E Outer z objects c.memory others fs → UnderWay W E Outer z objects c' (a ∷ others) (g ∷ fs)
+      → FunctionRuns W E Outer z objects c a g fs → Waiting W E Outer z objects c.memory others fs → UnderWay W E Outer z objects c' (knowing a (renewed a.facts) ∷ others) (g ∷ fs)
   under_kept c c' a others g fs its_calls regs memory r waits = (
     record {
       is = r.is;
       return_at = ap (λ y. if y then c'.memory (end_of W E Outer z fs) else c'.regs 31) its_calls ∙ memory (end_of W E Outer z fs) (omega arith) ∙ sym (ap (λ y. if y then c.memory (end_of W E Outer z fs) else c.regs 31) its_calls) ∙ r.return_at;
       frame_at = regs 29 (omega arith) (omega arith) ∙ r.frame_at;
       variables = variables_kept a.live c c' a.function g fs r.is (λ x le lt. regs x le (omega (arith, lt))) memory r.variables;
+      registers = λ e. registers_kept c c' a.function g fs a.facts r.is regs memory e (r.registers e);
+      sure = r.sure;
     },
     waiting_same W E Outer z held objects c.memory c'.memory others fs (λ x le lt. memory x le) waits,
   )
@@ -148,6 +176,8 @@ module _ (W E : Type 0) (Outer : W → Contents → Behind → Type 0) (z : Setu
         calls = h.0.calls;
         return_at = h.0.return_at;
         variables = variables_more a.live memory memory a.function g fs h.0.is (All-head (IsTypedFrame z.p.unit (store_typing z.p.unit objects)) g fs all) h.0.variables;
+        forgotten = h.0.forgotten;
+        sure = h.0.sure;
       },
       waiting_more memory acts fs (All-tail (IsTypedFrame z.p.unit (store_typing z.p.unit objects)) g fs all) h.1,
     )
@@ -161,6 +191,8 @@ module _ (W E : Type 0) (Outer : W → Contents → Behind → Type 0) (z : Setu
         return_at = h.0.return_at;
         frame_at = h.0.frame_at;
         variables = variables_more a.live c.regs c.memory a.function g fs h.0.is (All-head (IsTypedFrame z.p.unit (store_typing z.p.unit objects)) g fs all) h.0.variables;
+        registers = λ e. record { params = (h.0.registers e).params; answer = (h.0.registers e).answer };
+        sure = h.0.sure;
       },
       waiting_more c.memory others fs (All-tail (IsTypedFrame z.p.unit (store_typing z.p.unit objects)) g fs all) h.1,
     )

@@ -1,3 +1,6 @@
+pub mod RegisterVariables
+pub mod FactsKept
+pub mod FactsBehind
 pub mod ArgumentsToRegisters
 pub mod AsmFunctionCalled
 pub mod WorkAsCode

@@ -11,10 +11,11 @@ use Rattle.c0_meaning.specs.State.{C0State}
 use Rattle.c0_meaning.specs.Evaluation.{costs, at_no_cost, paying, variable_location, place_of}
 use Rattle.c0_meaning.specs.Running.{Work, act_on, finish, again, leave, begin, push}
 use Rattle.c0_expr_code.specs.Reads.{Covers}
-use Rattle.c0_stmt_code.specs.Code.{while_code, stmt_code, stmts_code}
+use Rattle.c0_expr_code.specs.declared.facts.Facts.{Facts}
+use Rattle.c0_stmt_code.specs.Code.{behind_stmt, tested_facts, stmt_code}
 use Rattle.c0_stmt_code.specs.Live.{is_variable, live_at_place, are_live}
-use Rattle.c0_stmt_code.specs.Ahead.{Activation, Text, Block, Ahead, needs, WaitingAreLive, AllAreLive}
-use Rattle.c0_stmt_code.proofs.WorkAsCode.{or_left, or_right}
+use Rattle.c0_stmt_code.specs.Ahead.{Activation, Text, Block, Ahead, knowing, looped_code, needs, WaitingAreLive, AllAreLive}
+use Rattle.c0_stmt_code.proofs.WorkAsCode.{Goes, or_left, or_right}
 
 -- all is live that may be read from where `needed` says it of what is live behind that: before statements and what is left to do behind them
 abbrev pub AreLiveBefore : (live : ℕ → Bool) → List Activation → (needed : ℕ → Bool → Bool) → CStmts → List Work → Type 0
@@ -90,32 +91,32 @@ found_variable p s u l n e v = absurd (cc)
 
 -- a function whose variables are live that these are
 abbrev pub with_live : Activation → (ℕ → Bool) → Activation
-with_live a live = record { function = a.function; to = a.to; live = live }
+with_live a live = record { function = a.function; to = a.to; live = live; facts = a.facts }
 
 -- the code ahead doesn't depend on which variables are live
-block_mapped : (x : Text) (f : CFunction) (p q : ℕ → ℕ → Type 0) → ((to left : ℕ) → p to left → q to left) → (k debt : ℕ) (ss : CStmts) → Block x f k debt ss p → Block x f k debt ss q
-block_mapped x f p q on k debt done h = (h.0, h.1, h.2, h.3, h.4, on h.1 h.2 h.5)
-block_mapped x f p q on k debt (next t rest) h = (h.0, block_mapped x f p q on (k + length (stmt_code (x.scope f) x.links t)) debt rest h.1)
+block_mapped : (x : Text) (f : CFunction) (p q : Facts → ℕ → ℕ → Type 0) → ((fs : Facts) (to left : ℕ) → p fs to left → q fs to left) → (fs : Facts) (k debt : ℕ) (ss : CStmts) → Block x f fs k debt ss p → Block x f fs k debt ss q
+block_mapped x f p q on fs k debt done h = (h.0, h.1, h.2, h.3, h.4, h.5, h.6, on h.0 h.3 h.4 h.7)
+block_mapped x f p q on fs k debt (next t rest) h = (h.0, block_mapped x f p q on (behind_stmt (x.scope f) fs t) (k + length (stmt_code (x.scope f) fs x.links t)) debt rest h.1)
 
 ahead_with : (x : Text) (a : Activation) (others : List Activation) (live : ℕ → Bool) (work : List Work) (k debt : ℕ) → Ahead x (a ∷ others) k debt work → Ahead x (with_live a live ∷ others) k debt work
 ahead_with x a others live [] k debt h = absurd h
 ahead_with x a others live (act_on t rest ∷ work) k debt h = (
   h.0,
-  block_mapped x a.function (λ to left. Ahead x (a ∷ others) to left work) (λ to left. Ahead x (with_live a live ∷ others) to left work)
-      (λ to left y. ahead_with x a others live work to left y) (k + length (stmt_code (x.scope a.function) x.links t)) debt rest h.1,
+  block_mapped x a.function (λ fs to left. Goes x a others work fs to left) (λ fs to left. Goes x (with_live a live) others work fs to left)
+      (λ fs to left y. ahead_with x (knowing a fs) others live work to left y) (behind_stmt (x.scope a.function) a.facts t) (k + length (stmt_code (x.scope a.function) a.facts x.links t)) debt rest h.1,
 )
 ahead_with x a others live (again t body rest ∷ work) k debt h = (
   h.0,
   h.1,
   h.2,
-  block_mapped x a.function (λ to left. Ahead x (a ∷ others) to left work) (λ to left. Ahead x (with_live a live ∷ others) to left work)
-      (λ to left y. ahead_with x a others live work to left y) (h.0 + length (while_code (x.scope a.function) t (stmts_code (x.scope a.function) x.links body))) debt rest h.3,
+  block_mapped x a.function (λ fs to left. Goes x a others work fs to left) (λ fs to left. Goes x (with_live a live) others work fs to left)
+      (λ fs to left y. ahead_with x (knowing a fs) others live work to left y) (tested_facts (x.scope a.function) a.facts t) (h.0 + length (looped_code x a.function a.facts t body)) debt rest h.3,
 )
 ahead_with x a others live (leave answer target ∷ work) k debt h = h
 ahead_with x a others live (finish place v rest ∷ work) k debt h = absurd h
 ahead_with x a others live (begin n args ∷ work) k debt h = absurd h
 
-pub block_with : (x : Text) (a : Activation) (others : List Activation) (live : ℕ → Bool) (k debt : ℕ) (rest : CStmts) (work : List Work) → Block x a.function k debt rest (λ to left. Ahead x (a ∷ others) to left work)
-    → Block x a.function k debt rest (λ to left. Ahead x (with_live a live ∷ others) to left work)
-block_with x a others live k debt rest work h = block_mapped x a.function (λ to left. Ahead x (a ∷ others) to left work) (λ to left. Ahead x (with_live a live ∷ others) to left work)
-    (λ to left y. ahead_with x a others live work to left y) k debt rest h
+pub block_with : (x : Text) (a : Activation) (others : List Activation) (live : ℕ → Bool) (fs : Facts) (k debt : ℕ) (rest : CStmts) (work : List Work) → Block x a.function fs k debt rest (λ fs to left. Goes x a others work fs to left)
+    → Block x a.function fs k debt rest (λ fs to left. Goes x (with_live a live) others work fs to left)
+block_with x a others live fs k debt rest work h = block_mapped x a.function (λ fs to left. Goes x a others work fs to left) (λ fs to left. Goes x (with_live a live) others work fs to left)
+    (λ fs to left y. ahead_with x (knowing a fs) others live work to left y) fs k debt rest h

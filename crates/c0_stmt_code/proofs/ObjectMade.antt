@@ -5,7 +5,7 @@ use Rattle.std.proofs.lemmas.Bool.{cases_Bool, cond-true, cond-false, ltb-true, 
 use Rattle.std.proofs.lemmas.Int.{ints}
 use Rattle.mips_table.specs.declared.inst.Inst.{Inst}
 use Rattle.mips_table.specs.declared.inst.Inst.TheVariants.{Jal}
-use Rattle.mips_table.specs.Code.{Contents, with_reg, Behind, CodeState, at_with, Reaches, RunLaws, CodeAt}
+use Rattle.mips_table.specs.Code.{Contents, with_reg, Behind, at_with, Reaches, RunLaws, CodeAt}
 use Rattle.masm.specs.Laws.{RunsCompose, JumpsLead, StraightRuns}
 use Rattle.c0_tree.specs.declared.tree.Span.{Span}
 use Rattle.c0_tree.specs.Size.{nodes}
@@ -30,12 +30,17 @@ use Rattle.c0_expr_code.specs.Bases.{words_of_all}
 use Rattle.c0_runtime.specs.Laws.{RoutineCalled, HeapIs, IsAsked, NewRuns}
 use Rattle.c0_stmt_code.specs.Code.{new_code, answer_code}
 use Rattle.c0_stmt_code.specs.Setup.{Setup}
-use Rattle.c0_stmt_code.specs.Ahead.{Activation, body_env, Block, Awaits, Ahead}
+use Rattle.c0_stmt_code.specs.Ahead.{Activation, body_env, knowing, Block, Awaits, Ahead}
+use Rattle.c0_typed.specs.Typed.{typed_of_expr}
+use Rattle.c0_expr_code.specs.declared.facts.Facts.{Facts}
+use Rattle.c0_expr_code.specs.Facts.{renewed}
+use Rattle.c0_stmt_code.specs.Behind.{stored_facts}
+use Rattle.c0_stmt_code.proofs.FactsBehind.{object_within, within_itself}
 use Rattle.c0_stmt_code.specs.Standing.{code_text, scope, word_of_value, Waiting, FunctionRuns, ConfigurationStands}
 use Rattle.c0_stmt_code.proofs.PremisesFromBelow.{HeldStays, TypedStays}
 use Rattle.c0_stmt_code.proofs.RunStretches.{Stretch, on, of, away}
-use Rattle.c0_stmt_code.proofs.WorkAsCode.{front, back}
-use Rattle.c0_stmt_code.proofs.FunctionsUnderWay.{standing_at, Exprs}
+use Rattle.c0_stmt_code.proofs.WorkAsCode.{Goes, front, back}
+use Rattle.c0_stmt_code.proofs.FunctionsUnderWay.{its_facts, standing_at, Exprs}
 use Rattle.c0_stmt_code.proofs.MemoryAccess.{other_reg, same_reg, read_is}
 use Rattle.c0_stmt_code.proofs.ValuesToPlaces.{its_exprs, its_ready}
 use Rattle.c0_stmt_code.proofs.CallActs.{stands_soft, calls_to}
@@ -58,6 +63,14 @@ module _ (runs : RunLaws) (compose : RunsCompose) (W E : Type 0) (Outer : W → 
   abbrev size : ℕ
   size = words (shapes z.p.unit) (ty_of t)
 
+  -- the function once the object is made
+  abbrev it_knows : Activation
+  it_knows = knowing a (renewed a.facts)
+
+  -- what is known once its address has gone to its place
+  abbrev pub behind_object : CExpr → Facts
+  behind_object p = stored_facts (typed_of_expr sc.env p) (renewed a.facts)
+
   abbrev fresh : Value
   fresh = zero_of (shapes z.p.unit) (ty_of t)
 
@@ -75,16 +88,16 @@ module _ (runs : RunLaws) (compose : RunsCompose) (W E : Type 0) (Outer : W → 
     special : c2.special ≡ c.special
     regs : (x : ℕ) → 20 ≤ x → x < 31 → c2.regs x ≡ c.regs x
 
-  asks : (s : Span) (p : CExpr) → CodeAt z.w k (new_code sc (code_text W E Outer z).links size p) → (c2 : Contents) × Asks c2 × Reaches z.w 17 (at_with k c d) (at_with (code_text W E Outer z).links.new_object c2 d)
+  asks : (s : Span) (p : CExpr) → CodeAt z.w k (new_code sc a.facts (code_text W E Outer z).links size p) → (c2 : Contents) × Asks c2 × Reaches z.w 17 (at_with k c d) (at_with (code_text W E Outer z).links.new_object c2 d)
   asks s p code =
       let small = declarable.small in
       let ex = its_exprs runs compose W E Outer z jumps straight held typing exprs objects gv hv hw g fs world calls answer c d a others st r waits in
-      let rd = its_ready runs compose W E Outer z jumps straight held typing exprs objects gv hv hw g fs world calls answer c d a others st r waits in
-      let run = ex.value (num s (size % 2 ^ 32)) ty.int (a_value (a_number (omega (arith, small)))) refl (omega arith) (λ m q. absurd (cc)) 2 8 k c d st.idle rd (front z.w k first_part (Jal (code_text W E Outer z).links.new_object ∷ answer_code sc p) code) (omega arith) (omega arith) (λ q. absurd (omega (arith, q))) (λ q. absurd (omega (arith, q))) in
+      let rd = its_ready runs compose W E Outer z jumps straight held typing exprs objects gv hv hw g fs world calls answer c d a others st r waits a.facts (its_facts W E Outer z objects gv hv hw g fs c a r) in
+      let run = ex.value a.facts (num s (size % 2 ^ 32)) ty.int (a_value (a_number (omega (arith, small)))) refl (omega arith) (λ m q. absurd (cc)) 2 8 k c d st.idle rd (front z.w k first_part (Jal (code_text W E Outer z).links.new_object ∷ answer_code sc (renewed a.facts) p) code) (omega arith) (omega arith) (λ q. absurd (omega (arith, q))) (λ q. absurd (omega (arith, q))) in
       let c1 : Contents = run.0 in
       let gives = run.1 in
       let keeps = gives.keeps in
-      let jal_at = back z.w k first_part (Jal (code_text W E Outer z).links.new_object ∷ answer_code sc p) code in
+      let jal_at = back z.w k first_part (Jal (code_text W E Outer z).links.new_object ∷ answer_code sc (renewed a.facts) p) code in
       let jump_there = calls_to runs compose W E Outer z jumps from (code_text W E Outer z).links.new_object run.0 d st.idle jal_at.0 in
       let value : run.0.regs 2 ≡ size = sym (read_is run.0.regs 2 (λ q. absurd (omega (arith, q)))) ∙ gives.is ∙ omega (arith, ints, small) in (
         with_reg run.0 31 (4 * (from + 1)),
@@ -123,8 +136,8 @@ module _ (runs : RunLaws) (compose : RunsCompose) (W E : Type 0) (Outer : W → 
   is_asked c2 asks = let small = declarable.small in record { asked = asks.asked; least = some_words t declarable; most = omega (arith, small) }
 
   -- there is no room
-  refuses : (s : Span) (p : CExpr) (rest : CStmts) (work : List Work) → z.p.heap < hw + size → CodeAt z.w k (new_code sc (code_text W E Outer z).links size p)
-      → Awaits (code_text W E Outer z) (a ∷ others) (from + 1) debt (ty.pointer (ty_of t)) (into p rest) work (λ acts to left. Ahead (code_text W E Outer z) acts to left work) → AreLiveAtPlace a.live others p rest work → GoesOn W E Outer z debt here (at_with k c d) (Go (units 1) (finish p null rest ∷ work) here)
+  refuses : (s : Span) (p : CExpr) (rest : CStmts) (work : List Work) → z.p.heap < hw + size → CodeAt z.w k (new_code sc a.facts (code_text W E Outer z).links size p)
+      → Awaits (code_text W E Outer z) (it_knows ∷ others) (from + 1) debt (ty.pointer (ty_of t)) (into p rest) work (λ acts to left. Ahead (code_text W E Outer z) acts to left work) → AreLiveAtPlace a.live others p rest work → GoesOn W E Outer z debt here (at_with k c d) (Go (units 1) (finish p null rest ∷ work) here)
   refuses s p rest work over code ahead live =
       let one = asks s p code in
       let two = new_runs.refuses (code_text W E Outer z).links.new_object (from + 1) hw z.p.heap z.a.heap size one.0 d z.new_object (called one.0 one.1) (heap_is one.0 one.1) (is_asked one.0 one.1) over in
@@ -140,7 +153,7 @@ module _ (runs : RunLaws) (compose : RunsCompose) (W E : Type 0) (Outer : W → 
         record {
           objects = objects;
           stands = stands_soft runs compose W E Outer z jumps objects here c two.0 d memory (keeps.special ∙ one.1.special) (regs 28 (omega arith) (omega arith)) (regs 30 (omega arith) (omega arith)) st;
-          activations = a ∷ others;
+          activations = it_knows ∷ others;
           under_way = under_kept W E Outer z held typing opened objects c two.0 a others g fs its_calls regs (λ x l. ap (λ m. m x) memory) r waits;
           t = ty.pointer (ty_of t);
           fits = tt;
@@ -172,8 +185,8 @@ module _ (runs : RunLaws) (compose : RunsCompose) (W E : Type 0) (Outer : W → 
       let before = ap (λ n. words_before (shapes z.p.unit) more n) number_is ∙ last_behind (shapes z.p.unit) objects (ty_of t) ∙ st.used in
       omega (arith, before)
 
-  makes : (s : Span) (p : CExpr) (rest : CStmts) (work : List Work) → hw + size ≤ z.p.heap → CodeAt z.w k (new_code sc (code_text W E Outer z).links size p)
-      → Awaits (code_text W E Outer z) (a ∷ others) (from + 1) debt (ty.pointer (ty_of t)) (into p rest) work (λ acts to left. Ahead (code_text W E Outer z) acts to left work) → AreLiveAtPlace a.live others p rest work → GoesOn W E Outer z debt here (at_with k c d) (Go (units (1 + size)) (finish p new_one rest ∷ work) made_here)
+  makes : (s : Span) (p : CExpr) (rest : CStmts) (work : List Work) → hw + size ≤ z.p.heap → CodeAt z.w k (new_code sc a.facts (code_text W E Outer z).links size p)
+      → Awaits (code_text W E Outer z) (it_knows ∷ others) (from + 1) debt (ty.pointer (ty_of t)) (into p rest) work (λ acts to left. Ahead (code_text W E Outer z) acts to left work) → AreLiveAtPlace a.live others p rest work → GoesOn W E Outer z debt here (at_with k c d) (Go (units (1 + size)) (finish p new_one rest ∷ work) made_here)
   makes s p rest work room code ahead live =
       let one = asks s p code in
       let two = new_runs.makes (code_text W E Outer z).links.new_object (from + 1) hw z.p.heap z.a.heap size one.0 d z.new_object (called one.0 one.1) (heap_is one.0 one.1) (is_asked one.0 one.1) room in
@@ -196,8 +209,8 @@ module _ (runs : RunLaws) (compose : RunsCompose) (W E : Type 0) (Outer : W → 
         record {
           objects = more;
           stands = st2;
-          activations = a ∷ others;
-          under_way = under_more W E Outer z held typing opened objects t declarable two.0 a others g fs st.typed.frames under;
+          activations = it_knows ∷ others;
+          under_way = under_more W E Outer z held typing opened objects t declarable two.0 it_knows others g fs st.typed.frames under;
           t = ty.pointer (ty_of t);
           fits = leads_there;
           answer = two.1.answer ∙ sym word_is;
@@ -207,8 +220,8 @@ module _ (runs : RunLaws) (compose : RunsCompose) (W E : Type 0) (Outer : W → 
       )
 
   -- the statement
-  pub makes_object : (s : Span) (p : CExpr) (rest : CStmts) (work : List Work) → IsNumberedLeft (body_env (code_text W E Outer z) a.function) p (ty.pointer (ty_of t)) → new_need p ≤ MAX_NEED → nodes p ≤ 2000 → CodeAt z.w k (new_code sc (code_text W E Outer z).links size p)
-      → Block (code_text W E Outer z) a.function (k + length (new_code sc (code_text W E Outer z).links size p)) debt rest (λ to left. Ahead (code_text W E Outer z) (a ∷ others) to left work) → AreLiveAtPlace a.live others p rest work → GoesOn W E Outer z debt here (at_with k c d) (allocate z.p (ty_of t) (into p rest) work here)
+  pub makes_object : (s : Span) (p : CExpr) (rest : CStmts) (work : List Work) → IsNumberedLeft (body_env (code_text W E Outer z) a.function) p (ty.pointer (ty_of t)) → new_need p ≤ MAX_NEED → nodes p ≤ 2000 → CodeAt z.w k (new_code sc a.facts (code_text W E Outer z).links size p)
+      → Block (code_text W E Outer z) a.function (behind_object p) (k + length (new_code sc a.facts (code_text W E Outer z).links size p)) debt rest (λ fs to left. Goes (code_text W E Outer z) a others work fs to left) → AreLiveAtPlace a.live others p rest work → GoesOn W E Outer z debt here (at_with k c d) (allocate z.p (ty_of t) (into p rest) work here)
   makes_object s p rest work left shallow few code block live = elim (cases_Bool (nat_lt z.p.heap (hw + size))) [
     | inl over ↦ subst (λ q. GoesOn W E Outer z debt here (at_with k c d) q) (sym (cond-true (nat_lt z.p.heap (hw + size)) refused granted over)) (refuses s p rest work (ltb-true z.p.heap (hw + size) over) code ahead live)
     | inr fine ↦ subst (λ q. GoesOn W E Outer z debt here (at_with k c d) q) (sym (cond-false (nat_lt z.p.heap (hw + size)) refused granted fine)) (makes s p rest work (ltb-false z.p.heap (hw + size) fine) code ahead live)
@@ -220,12 +233,18 @@ module _ (runs : RunLaws) (compose : RunsCompose) (W E : Type 0) (Outer : W → 
       granted : Step W E
       granted = Go (units (1 + size)) (finish p new_one rest ∷ work) made_here
 
-      len : k + length (new_code sc (code_text W E Outer z).links size p) ≡ from + 1 + length (answer_code sc p)
-      len = omega (arith, length-append first_part (Jal (code_text W E Outer z).links.new_object ∷ answer_code sc p))
+      len : k + length (new_code sc a.facts (code_text W E Outer z).links size p) ≡ from + 1 + length (answer_code sc (renewed a.facts) p)
+      len = omega (arith, length-append first_part (Jal (code_text W E Outer z).links.new_object ∷ answer_code sc (renewed a.facts) p))
 
-      ahead : Awaits (code_text W E Outer z) (a ∷ others) (from + 1) debt (ty.pointer (ty_of t)) (into p rest) work (λ acts to left. Ahead (code_text W E Outer z) acts to left work)
+      ahead : Awaits (code_text W E Outer z) (it_knows ∷ others) (from + 1) debt (ty.pointer (ty_of t)) (into p rest) work (λ acts to left. Ahead (code_text W E Outer z) acts to left work)
       ahead = (
-        record { left = left; shallow = shallow; few = few },
-        (back z.w k first_part (Jal (code_text W E Outer z).links.new_object ∷ answer_code sc p) code).1,
-        subst (λ m. Block (code_text W E Outer z) a.function m debt rest (λ to left. Ahead (code_text W E Outer z) (a ∷ others) to left work)) len block,
+        record {
+          there = record { left = left; shallow = shallow; few = few };
+          before = renewed a.facts;
+          fewer = within_itself (renewed a.facts);
+          behind = behind_object p;
+          later = object_within sc.in_registers (typed_of_expr sc.env p) a.facts;
+          code = (back z.w k first_part (Jal (code_text W E Outer z).links.new_object ∷ answer_code sc (renewed a.facts) p) code).1;
+        },
+        subst (λ m. Block (code_text W E Outer z) a.function (behind_object p) m debt rest (λ fs to left. Goes (code_text W E Outer z) a others work fs to left)) len block,
       )

@@ -1,5 +1,5 @@
 -- What the proofs of this crate take from the crates below, as premises.
-use Rattle.std.proofs.Common.{◌≡◌, ◌≢◌, ◌⊎◌, ℕ, ◌+◌, ◌*◌, ◌<◌, ◌≤◌, Bool, List, [], ◌∷◌, ◌++◌, length}
+use Rattle.std.proofs.Common.{◌≡◌, ◌≢◌, ◌⊎◌, ℕ, ◌+◌, ◌*◌, ◌<◌, ◌≤◌, Bool, true, false, List, [], ◌∷◌, ◌++◌, length}
 use Rattle.mips_table.specs.Code.{World}
 use Rattle.c0_tree.specs.Primitives.{CPrimitive}
 use Rattle.c0_tree.specs.Size.{need, nodes, stmts_nodes}
@@ -17,21 +17,36 @@ use Rattle.c0_meaning.specs.State.{Frame, C0State, write, pushed}
 use Rattle.c0_meaning.specs.Sound.{shapes}
 use Rattle.c0_meaning.specs.Addresses.{words_to_part}
 use Rattle.c0_meaning.specs.TypedState.{types_of, LeadsFrom, Fits, AllFit, variable_types, store_typing, IsTypedWith}
-use Rattle.c0_meaning.specs.Evaluation.{value_of, place_of}
-use Rattle.std.specs.Prelude.{None, Some, IsTrue, map, slice_get}
+use Rattle.c0_meaning.specs.Evaluation.{costs, truth, value_of, place_of}
+use Rattle.c0_meaning.specs.State.{variables_of}
+use Rattle.std.specs.Prelude.{None, Some, Ok, IsTrue, map, slice_get}
+use Rattle.mips_table.specs.Code.{Contents}
+use Rattle.c0_typed.specs.Typed.{typed_of_expr}
+use Rattle.c0_expr_code.specs.declared.facts.Facts.{Facts}
+use Rattle.c0_expr_code.specs.Facts.{facts_followed, facts_told, stored_in, IsFreeRegister, SureHold}
+use Rattle.c0_expr_code.specs.Laws.{memory_with}
 use Rattle.c0_expr_code.specs.Scope.{Scope}
 use Rattle.c0_expr_code.specs.Code.{operand_code, made, value_code}
 use Rattle.c0_expr_code.specs.Test.{test_code}
-use Rattle.c0_expr_code.specs.Bases.{Bases, words_of_all, word_of_scalar, RegionHeld, LocalsHeld}
+use Rattle.c0_expr_code.specs.Bases.{Bases, words_of_all, types_in, location_word, word_of_scalar, RegionHeld, LocalsHeld}
 use Rattle.c0_expr_code.specs.Reads.{reads, reads_to_find, Covers}
-use Rattle.c0_expr_code.specs.Relation.{ValueRuns, OperandRuns, PlaceRuns, TestRuns}
+use Rattle.c0_expr_code.specs.Relation.{ValueRuns, OperandRuns, PlaceRuns, TestRuns, KeepsRegisters, FactsHold}
 
 -- the code of a function's expressions does what they mean, in a state that stands in the machine, where the variables that they read are live
 pub record ExpressionsDo (w : World) (env : Env) (sc : Scope) (p : Bases) (live : ℕ → Bool) (s : C0State) : Type 0 where
-  pub value : (e : CExpr) (t : Ty) → IsNumberedGiven env e t → IsTrue (is_scalar t) → nodes e ≤ 2000 → Covers live (reads e) → ValueRuns w sc p live s (made sc e) (need e) t (value_of e s)
-  pub operand : (e : CExpr) (t : Ty) → IsNumberedGiven env e t → IsTrue (is_scalar t) → nodes e ≤ 2000 → Covers live (reads e) → OperandRuns w sc p live s (made sc e) (need e) t (value_of e s)
-  pub place : (e : CExpr) (t : Ty) → IsNumberedLeft env e t → nodes e ≤ 2000 → (made sc e).stands ≡ None → Covers live (reads_to_find e) → PlaceRuns w sc p live s (made sc e) (need e) (is_frame_place e) t (place_of e s)
-  pub test : (e : CExpr) → IsNumberedGiven env e bool → nodes e ≤ 2000 → Covers live (reads e) → TestRuns w sc p live s e
+  pub value : (fs : Facts) (e : CExpr) (t : Ty) → IsNumberedGiven env e t → IsTrue (is_scalar t) → nodes e ≤ 2000 → Covers live (reads e) → ValueRuns w sc p live fs s (made sc fs e) (need e) t (value_of e s)
+  pub operand : (fs : Facts) (e : CExpr) (t : Ty) → IsNumberedGiven env e t → IsTrue (is_scalar t) → nodes e ≤ 2000 → Covers live (reads e) → OperandRuns w sc p live fs s (made sc fs e) (need e) t (value_of e s)
+  pub place : (fs : Facts) (e : CExpr) (t : Ty) → IsNumberedLeft env e t → nodes e ≤ 2000 → (made sc fs e).register ≡ None → Covers live (reads_to_find e) → PlaceRuns w sc p live fs s (made sc fs e) (need e) (is_frame_place e) t (place_of e s)
+  pub test : (fs : Facts) (e : CExpr) → IsNumberedGiven env e bool → nodes e ≤ 2000 → Covers live (reads e) → TestRuns w sc p live fs s e
+  -- what is known once they were evaluated
+  pub after_value : (fs : Facts) (e : CExpr) (k : ℕ) (v : Value) (c : Contents) → value_of e s ≡ costs k (Ok v) → FactsHold sc p fs s c → FactsHold sc p (facts_followed (typed_of_expr sc.env e) fs) s c
+  pub after_place : (fs : Facts) (e : CExpr) (k : ℕ) (l : Location) (c : Contents) → place_of e s ≡ costs k (Ok l) → FactsHold sc p fs s c → FactsHold sc p (facts_followed (typed_of_expr sc.env e) fs) s c
+  pub after_test : (fs : Facts) (e : CExpr) (k : ℕ) (b : Bool) (c : Contents) → IsNumberedGiven env e bool → truth (value_of e s) ≡ costs k (Ok b) → FactsHold sc p fs s c → FactsHold sc p (facts_told (typed_of_expr sc.env e) b fs) s c
+  -- what is known holds on, and where a scalar is stored
+  pub kept : (fs : Facts) (here : C0State) (a b : Contents) (r d : ℕ) → 8 ≤ r → KeepsRegisters r d a b → (sc.in_registers ≡ false → IsFreeRegister fs d) → FactsHold sc p fs here a → FactsHold sc p fs here b
+  pub stored : (fs : Facts) (c : Contents) (l : Location) (t : Ty) (x : Value) (v : ℕ) → LeadsFrom sc.env.structs (types_in sc p l.region) l.path t → IsTrue (is_scalar t)
+      → FactsHold sc p fs s c → FactsHold sc p (stored_in l.region l.path fs) (write s l x) (memory_with c (location_word sc p l) v)
+  pub written : (fs : Facts) (l : Location) (t : Ty) (x : Value) → LeadsFrom sc.env.structs (types_in sc p l.region) l.path t → SureHold fs (variables_of s.frames) → SureHold (stored_in l.region l.path fs) (variables_of (write s l x).frames)
 
 -- what stands in words stays while these stay, and a scalar that is stored in its word stands there
 pub record HeldStays (structs : List Shape) : Type 0 where
@@ -66,13 +81,13 @@ pub record TypedStays (u : CUnit) : Type 0 where
 
 -- how long the code of expressions is
 pub record LengthsFit (sc : Scope) : Type 0 where
-  pub value : (e : CExpr) (d r : ℕ) → length (value_code sc e d r) ≤ 14 * nodes e
-  pub value_some : (e : CExpr) (d r : ℕ) → 1 ≤ length (value_code sc e d r)
-  pub operand : (e : CExpr) (r : ℕ) → length (operand_code (made sc e) r) ≤ 14 * nodes e
-  pub place : (e : CExpr) (r : ℕ) → length ((made sc e).place r).code + 3 ≤ 14 * nodes e
-  pub test : (e : CExpr) (s : Bool) (far r : ℕ) → length (test_code sc e s far r) ≤ 15 * nodes e
-  pub test_some : (e : CExpr) (s : Bool) (far r : ℕ) → 1 ≤ length (test_code sc e s far r)
-  pub test_same : (e : CExpr) (s : Bool) (far r : ℕ) → length (test_code sc e s far r) ≡ length (test_code sc e s 0 r)
+  pub value : (fs : Facts) (e : CExpr) (d r : ℕ) → length (value_code sc fs e d r) ≤ 14 * nodes e
+  pub value_some : sc.in_registers ≡ true → (fs : Facts) (e : CExpr) (d r : ℕ) → 1 ≤ length (value_code sc fs e d r)
+  pub operand : (fs : Facts) (e : CExpr) (r : ℕ) → length (operand_code (made sc fs e) r) ≤ 14 * nodes e
+  pub place : (fs : Facts) (e : CExpr) (r : ℕ) → length ((made sc fs e).place r).code + 3 ≤ 14 * nodes e
+  pub test : (fs : Facts) (e : CExpr) (s : Bool) (far r : ℕ) → length (test_code sc fs e s far r) ≤ 15 * nodes e
+  pub test_some : (fs : Facts) (e : CExpr) (s : Bool) (far r : ℕ) → 1 ≤ length (test_code sc fs e s far r)
+  pub test_same : (fs : Facts) (e : CExpr) (s : Bool) (far r : ℕ) → length (test_code sc fs e s far r) ≡ length (test_code sc fs e s 0 r)
 
 -- each of these types is a scalar's
 abbrev pub AllScalar : List Ty → Type 0

@@ -3,7 +3,7 @@ use Rattle.std.specs.Prelude.{map, slice_get, IsTrue, Some}
 use Rattle.std.specs.List.{All}
 use Rattle.std.proofs.lemmas.List.Elements.{All-head, All-tail}
 use Rattle.std.proofs.Common.{◌≡◌, ℕ, zero, suc, ◌≤◌, Bool, true, false, List, [], ◌∷◌, ◌++◌, length, refl, sym, ap, ◌∙◌, subst, arith}
-use Rattle.mips_table.specs.Code.{Contents, Behind, CodeState}
+use Rattle.mips_table.specs.Code.{Contents, Behind}
 use Rattle.c0_tree.specs.Size.{body_nodes}
 use Rattle.c0_tree.specs.Primitives.{CPrimitive}
 use Rattle.c0_tree.specs.Tree.{CDecl, CExpr, CFunction, CUnit}
@@ -19,15 +19,19 @@ use Rattle.c0_meaning.specs.Numbered.{IsNumberedGiven, a_value, a_null, IsNumber
 use Rattle.c0_meaning.specs.Typed.{IsDeclarable, IsTypedUnit, IsTypedFunction, UnitsAreFaultless}
 use Rattle.c0_meaning.specs.Unit.{IsWellFormed}
 use Rattle.c0_meaning.specs.TypedState.{types_of, AreParts, variable_types, IsTypedFrame, store_typing, IsTypedWith, AreDeclared}
-use Rattle.c0_expr_code.specs.Bases.{words_of_all}
+use Rattle.c0_expr_code.specs.Bases.{types_in, words_of_all}
 use Rattle.c0_expr_code.specs.Relation.{StateIsTyped, Area}
 use Rattle.c0_expr_code.specs.Laws as below
+use Rattle.c0_expr_code.specs.FactLaws.{FactsGrow, FactsStay}
+use Rattle.c0_expr_code.specs.Facts.{facts_followed, facts_told}
+use Rattle.c0_typed.specs.Typed.{typed_of_expr}
 use Rattle.c0_stmt_code.specs.Setup.{Setup}
 use Rattle.c0_stmt_code.specs.Ahead.{body_env}
 use Rattle.c0_stmt_code.specs.Standing.{code_text, scope, bases}
 use Rattle.c0_stmt_code.proofs.PremisesFromBelow.{AreInts, FunctionsAre, AllScalar}
 use Rattle.c0_stmt_code.proofs.RegionsApart.{frame_on, words_by_types}
 use Rattle.c0_stmt_code.proofs.FunctionsUnderWay.{Exprs}
+use Rattle.c0_stmt_code.proofs.FactsKept.{same_registers}
 
 at_number : {A : Type 0} (P : A → Type 0) (xs : List A) (i : ℕ) (x : A) → All P xs → slice_get xs i ≡ Some x → P x
 at_number P [] i x a e = cc
@@ -39,19 +43,26 @@ pub given_in : (names : below.NamesAreEnough) (a b : Env) → below.HaveSameName
 given_in names a b same e t (a_value h) = a_value (names a b same e t h)
 given_in names a b same _ _ a_null = a_null
 
-module _ (places_run : below.PlacesRun) (given_run : below.GivenRun) (tests_run : below.TestsRun) (names : below.NamesAreEnough) (areas : below.AreasHold) (W E : Type 0) (Outer : W → Contents → Behind → Type 0) (z : Setup W E Outer) where
+module _ (places_run : below.PlacesRun) (given_run : below.GivenRun) (tests_run : below.TestsRun) (names : below.NamesAreEnough) (areas : below.AreasHold) (grow : FactsGrow) (stay : FactsStay) (W E : Type 0) (Outer : W → Contents → Behind → Type 0) (z : Setup W E Outer) where
+  -- globals, heap and frame stand one behind the other
+  apart : (objects : List Ty) (g : Frame) (fs : List Frame) (f : CFunction) → slice_get z.p.unit.functions g.function ≡ Some f → words_of_all (shapes z.p.unit) objects ≤ z.p.heap → below.RegionsApart (scope W E Outer z f) (bases W E Outer z objects (g ∷ fs))
+  apart objects g fs f is room =
+      let on = frame_on z.p.unit g fs f is in
+      let gf = z.globals_fit in
+      let hf = z.heap_fits in
+      let wt = words_by_types (shapes z.p.unit) (map typed_of z.p.unit.globals) in
+      record { heap_behind = omega (arith, gf, wt); frame_behind = omega (arith, hf, room, on) }
+
   pub area : (objects : List Ty) (g : Frame) (fs : List Frame) (f : CFunction) → slice_get z.p.unit.functions g.function ≡ Some f → AreDeclared (shapes z.p.unit) objects → words_of_all (shapes z.p.unit) objects ≤ z.p.heap → stack_words z.p.unit (g ∷ fs) ≤ z.p.stack
       → Area z.w (scope W E Outer z f) (bases W E Outer z objects (g ∷ fs))
   area objects g fs f is declared room stack =
       let on = frame_on z.p.unit g fs f is in
-      let gf = z.globals_fit in
       let hf = z.heap_fits in
       let sf = z.stack_fits in
       let lo = z.low in
-      let wt = words_by_types (shapes z.p.unit) (map typed_of z.p.unit.globals) in
       areas z.table z.p.unit z.well_formed f g.function is z.addresses z.w (bases W E Outer z objects (g ∷ fs))
       (record { from = omega (arith, lo); heap = omega (arith, room, hf, sf); frame = omega (arith, stack, sf); inside = omega (arith, on) })
-      (record { heap_behind = omega (arith, gf, wt); frame_behind = omega (arith, hf, room, on) }) declared
+      (apart objects g fs f is room) declared
 
   is_typed : (objects : List Ty) (s : C0State) (frames : List Frame) (g : Frame) (fs : List Frame) (f : CFunction) → s.frames ≡ frames → frames ≡ g ∷ fs → slice_get z.p.unit.functions g.function ≡ Some f → IsTypedWith z.p.unit objects s → StateIsTyped (scope W E Outer z f) (bases W E Outer z objects (g ∷ fs)) s
   is_typed objects s frames g fs f e q is typed =
@@ -73,10 +84,17 @@ module _ (places_run : below.PlacesRun) (given_run : below.GivenRun) (tests_run 
       let sn = is_typed objects s (g ∷ fs) g fs f e refl is typed in
       let same : below.HaveSameNames (body_env (code_text W E Outer z) f) (scope W E Outer z f).env = record { structs = refl; globals = refl; locals = refl } in
       record {
-        value = λ x t given scalar few cover. (given_run z.w (scope W E Outer z f) (bases W E Outer z objects (g ∷ fs)) live s z.sound ar sn x t (given_in names (body_env (code_text W E Outer z) f) (scope W E Outer z f).env same x t given) few cover).value scalar;
-        operand = λ x t given scalar few cover. (given_run z.w (scope W E Outer z f) (bases W E Outer z objects (g ∷ fs)) live s z.sound ar sn x t (given_in names (body_env (code_text W E Outer z) f) (scope W E Outer z f).env same x t given) few cover).operand scalar;
-        place = λ x t left few stands cover. places_run z.w (scope W E Outer z f) (bases W E Outer z objects (g ∷ fs)) live s z.sound ar sn x t (names (body_env (code_text W E Outer z) f) (scope W E Outer z f).env same x t left.typed) few cover left.place stands;
-        test = λ x given few cover. tests_run z.w (scope W E Outer z f) (bases W E Outer z objects (g ∷ fs)) live s z.sound ar sn x (given_in names (body_env (code_text W E Outer z) f) (scope W E Outer z f).env same x ty.bool given) few cover;
+        value = λ known x t given scalar few cover. (given_run z.w (scope W E Outer z f) (bases W E Outer z objects (g ∷ fs)) live known s z.sound ar sn x t (given_in names (body_env (code_text W E Outer z) f) (scope W E Outer z f).env same x t given) few cover).value scalar;
+        operand = λ known x t given scalar few cover. (given_run z.w (scope W E Outer z f) (bases W E Outer z objects (g ∷ fs)) live known s z.sound ar sn x t (given_in names (body_env (code_text W E Outer z) f) (scope W E Outer z f).env same x t given) few cover).operand scalar;
+        place = λ known x t left few stands cover. places_run z.w (scope W E Outer z f) (bases W E Outer z objects (g ∷ fs)) live known s z.sound ar sn x t (names (body_env (code_text W E Outer z) f) (scope W E Outer z f).env same x t left.typed) few cover left.place stands;
+        test = λ known x given few cover. tests_run z.w (scope W E Outer z f) (bases W E Outer z objects (g ∷ fs)) live known s z.sound ar sn x (given_in names (body_env (code_text W E Outer z) f) (scope W E Outer z f).env same x ty.bool given) few cover;
+        after_value = λ known x k v c is h. same_registers (scope W E Outer z f) (bases W E Outer z objects (g ∷ fs)) known (facts_followed (typed_of_expr (scope W E Outer z f).env x) known) s c (grow.same_followed (typed_of_expr (scope W E Outer z f).env x) known) (grow.value (scope W E Outer z f).env known x s k v is h.sure) h;
+        after_place = λ known x k l c is h. same_registers (scope W E Outer z f) (bases W E Outer z objects (g ∷ fs)) known (facts_followed (typed_of_expr (scope W E Outer z f).env x) known) s c (grow.same_followed (typed_of_expr (scope W E Outer z f).env x) known) (grow.place (scope W E Outer z f).env known x s k l is h.sure) h;
+        after_test = λ known x k b c given is h. same_registers (scope W E Outer z f) (bases W E Outer z objects (g ∷ fs)) known (facts_told (typed_of_expr (scope W E Outer z f).env x) b known) s c (grow.same_told (typed_of_expr (scope W E Outer z f).env x) b known)
+            (grow.test (scope W E Outer z f) (bases W E Outer z objects (g ∷ fs)) known x s k b sn (given_in names (body_env (code_text W E Outer z) f) (scope W E Outer z f).env same x ty.bool given) is h.sure) h;
+        kept = λ known here a b r d le keeps free h. stay.kept (scope W E Outer z f) (bases W E Outer z objects (g ∷ fs)) known here a b r d le keeps free h;
+        stored = λ known c l t x v leads scalar h. stay.in_memory z.w (scope W E Outer z f) (bases W E Outer z objects (g ∷ fs)) known s c ar (apart objects g fs f is room) h l t x v leads scalar;
+        written = λ known l t x leads sure. stay.written known s l x (scope W E Outer z f).env.structs (types_in (scope W E Outer z f) (bases W E Outer z objects (g ∷ fs)) l.region) t leads sure;
       }
 
 -- functions of a unit that is well formed

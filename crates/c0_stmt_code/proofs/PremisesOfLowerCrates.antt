@@ -3,7 +3,7 @@ use Rattle.std.specs.Prelude.{map, slice_get, slice_index_or, IsTrue, Some, unwr
 use Rattle.std.specs.List.{All}
 use Rattle.std.proofs.lemmas.List.Elements.{All-cons, All-head, All-tail}
 use Rattle.std.proofs.lemmas.List.{map-append}
-use Rattle.std.proofs.Common.{◌≡◌, ◌≢◌, ℕ, zero, suc, ◌+◌, ◌*◌, ◌<◌, ◌≤◌, List, [], ◌∷◌, ◌++◌, refl, sym, ap, ◌∙◌, subst, arith}
+use Rattle.std.proofs.Common.{◌≡◌, ◌≢◌, inl, ℕ, zero, suc, ◌+◌, ◌*◌, ◌<◌, ◌≤◌, List, [], ◌∷◌, ◌++◌, refl, sym, ap, ◌∙◌, subst, arith}
 use Rattle.c0_tree.specs.Tree.{CTy, CDecl, CExpr, CStmts, code, CFunction, CUnit}
 use Rattle.c0_meaning.specs.Ty.{Ty, ty_of, is_scalar}
 use Rattle.c0_meaning.specs.Ty as ty
@@ -23,7 +23,7 @@ use Rattle.c0_expr_code.specs.Laws as below
 use Rattle.c0_stmt_code.proofs.PremisesFromBelow.{HeldStays, TypedStays, LengthsFit, types_for}
 
 pub lengths_fit : below.CodesAreShort → (sc : Scope) → LengthsFit sc
-lengths_fit h sc = record { value = h.value sc; value_some = h.some sc; operand = h.operand sc; place = h.place sc; test = h.test sc; test_some = h.test_some sc; test_same = λ e s far r. h.same sc e s far 0 r }
+lengths_fit h sc = record { value = h.value sc; value_some = λ form fs e d r. h.some sc fs e d r (inl form); operand = h.operand sc; place = h.place sc; test = h.test sc; test_some = h.test_some sc; test_same = λ fs e s far r. h.same sc fs e s far 0 r }
 
 -- where parts lie
 module _ (structs : List Shape) (opened : below.IsOpened structs) where

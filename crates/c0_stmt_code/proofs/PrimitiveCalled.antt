@@ -25,21 +25,27 @@ use Rattle.c0_meaning.specs.TypedState.{StoreTyping, types_of, Fits, AllFit, sto
 use Rattle.c0_typed.specs.Leaf.{calls_in}
 use Rattle.c0_expr_code.specs.Scope.{Scope}
 use Rattle.c0_expr_code.specs.Bases.{Bases, word_of_scalar, RegionHeld}
-use Rattle.c0_stmt_code.specs.Code.{args_code, answer_code}
+use Rattle.c0_typed.specs.Typed.{typed_of_expr}
+use Rattle.c0_expr_code.specs.declared.facts.Facts.{Facts}
+use Rattle.c0_expr_code.specs.Facts.{IsWithin, SureHold, facts_called}
+use Rattle.c0_stmt_code.specs.Behind.{all_followed}
+use Rattle.c0_stmt_code.specs.Code.{args_code, answer_code, answered_facts}
+use Rattle.c0_stmt_code.proofs.FactsBehind.{all_followed_grows, called_follows, within_itself}
+use Rattle.c0_stmt_code.proofs.FactsKept.{registers_forgotten}
 use Rattle.c0_stmt_code.specs.Setup.{Setup, ArePassed, scalar_word, PrimitiveIsCalled, HasReturned}
-use Rattle.c0_stmt_code.specs.Ahead.{Activation, body_env, Block, Awaits, Ahead}
+use Rattle.c0_stmt_code.specs.Ahead.{Activation, body_env, knowing, Block, Awaits, Ahead}
 use Rattle.c0_stmt_code.specs.Live.{any_reads, live_at_place}
 use Rattle.c0_stmt_code.proofs.LiveAroundSteps.{AreLiveBefore}
 use Rattle.c0_stmt_code.specs.Standing.{code_text, scope, bases, end_of, unit_scope, AreIn, Waiting, FunctionRuns, UnderWay, IsPrimitiveCall, ConfigurationStands, StepIs}
 use Rattle.c0_stmt_code.proofs.PremisesFromBelow.{HeldStays, TypedStays, AllScalar}
 use Rattle.c0_stmt_code.proofs.RunStretches.{none, on, away}
-use Rattle.c0_stmt_code.proofs.WorkAsCode.{front, back, or_left, or_right}
+use Rattle.c0_stmt_code.proofs.WorkAsCode.{Goes, front, back, or_left, or_right}
 use Rattle.c0_stmt_code.proofs.UnitsWithinNodes.{values_within}
-use Rattle.c0_stmt_code.proofs.FunctionsUnderWay.{state_of, standing_at, Exprs}
+use Rattle.c0_stmt_code.proofs.FunctionsUnderWay.{its_facts, state_of, standing_at, Exprs}
 use Rattle.c0_stmt_code.proofs.MemoryAccess.{other_reg, same_reg}
 use Rattle.c0_stmt_code.proofs.RegionsApart.{variables_same, waiting_same, frame_words, frame_on, words_by_types}
 use Rattle.c0_stmt_code.proofs.ValuesToPlaces.{its_exprs, its_ready}
-use Rattle.c0_stmt_code.proofs.ArgumentsToRegisters.{InRegisters, args_run}
+use Rattle.c0_stmt_code.proofs.ArgumentsToRegisters.{InRegisters, args_run, known_after}
 use Rattle.c0_stmt_code.proofs.CallActs.{stands_soft, then_soft, calls_to}
 
 -- ints and bools fit whatever there is beside them
@@ -101,9 +107,9 @@ module _ (runs : RunLaws) (compose : RunsCompose) (W E : Type 0) (Outer : W → 
   here = standing_at gv hv hw (g ∷ fs) world calls answer
 
   -- all stands where the primitive returns
-  after : (h' : Configuration W E) (c2 : Contents) (to : ℕ) (index : ℕ) (t : CodeState) → h'.state ≡ here.state → c2.memory ≡ c.memory → c2.regs 28 ≡ c.regs 28 → c2.regs 29 ≡ c.regs 29 → c2.regs 30 ≡ c.regs 30 → HasReturned z.p.unit z.a z.p.stack to (at_with index c2 d) t → Outer h'.world t.contents t.behind
-      → ConfigurationStands W E Outer z objects h' t.contents t.behind × UnderWay W E Outer z objects t.contents (a ∷ others) (g ∷ fs)
-  after h' c2 to index t same memory r28 r29 r30 b outer =
+  after : (known : Facts) → IsWithin known (facts_called known) → SureHold known g.variables → (h' : Configuration W E) (c2 : Contents) (to : ℕ) (index : ℕ) (t : CodeState) → h'.state ≡ here.state → c2.memory ≡ c.memory → c2.regs 28 ≡ c.regs 28 → c2.regs 29 ≡ c.regs 29 → c2.regs 30 ≡ c.regs 30 → HasReturned z.p.unit z.a z.p.stack to (at_with index c2 d) t → Outer h'.world t.contents t.behind
+      → ConfigurationStands W E Outer z objects h' t.contents t.behind × UnderWay W E Outer z objects t.contents (knowing a known ∷ others) (g ∷ fs)
+  after known forgotten sure h' c2 to index t same memory r28 r29 r30 b outer =
       let used = ap (λ m. m 1026) memory ∙ st.used_word in
       let fo = frame_on z.p.unit g fs a.function r.is in
       let ws = frame_words z.p.unit a.function in
@@ -137,28 +143,38 @@ module _ (runs : RunLaws) (compose : RunsCompose) (W E : Type 0) (Outer : W → 
             return_at = ap (λ y. if y then t.contents.memory (end_of W E Outer z fs) else t.contents.regs 31) its_calls ∙ stack_same (end_of W E Outer z fs) (omega arith) (omega (arith, fo, ws)) ∙ sym (ap (λ y. if y then c.memory (end_of W E Outer z fs) else c.regs 31) its_calls) ∙ r.return_at;
             frame_at = b.frame_end ∙ r29 ∙ r.frame_at;
             variables = variables_same W E Outer z held objects a.live c.regs t.contents.regs c.memory t.contents.memory a.function g fs true form r.is (λ x le lt. stack_same x (omega (arith, le)) lt) r.variables;
+            registers = λ e. registers_forgotten sc (bases W E Outer z objects (g ∷ fs)) known t.contents forgotten;
+            sure = sure;
           },
           waiting_same W E Outer z held objects c.memory t.contents.memory others fs (λ x le lt. stack_same x le (omega (arith, lt, fo))) waits,
         ),
       )
 
+  -- what is known while the call runs, and once its answer has gone to its place
+  abbrev while_called : List CExpr → Facts
+  while_called args = facts_called (all_followed (map (typed_of_expr sc.env) args) a.facts)
+
+  abbrev after_call_known : List CExpr → CExpr → Facts
+  after_call_known args p = answered_facts sc (while_called args) p
+
   pub calls_primitive : (n : ℕ) (row : CPrimitive) (args : List CExpr) (p : CExpr) (rest : CStmts) (work : List Work) → slice_get z.table n ≡ Some row → AreNumberedGiven (body_env (code_text W E Outer z) a.function) args (map scalar_ty row.args) → length args ≤ 8
-      → (item : Work) → ((u : ℕ) (vs : Values) → values_of args here.state ≡ costs u (Ok vs) → IsPrimitiveCall here item n vs) → IsNumberedLeft (body_env (code_text W E Outer z) a.function) p (scalar_ty row.answer) → call_need p args ≤ MAX_NEED → nodes p + args_nodes args + 1 ≤ 2000 → 1 ≤ length (answer_code sc p)
-      → CodeAt z.w k (args_code sc args 0 ++ (Jal ((code_text W E Outer z).links.primitive n) ∷ answer_code sc p))
-      → Block (code_text W E Outer z) a.function (k + length (args_code sc args 0 ++ (Jal ((code_text W E Outer z).links.primitive n) ∷ answer_code sc p))) debt rest (λ to left. Ahead (code_text W E Outer z) (a ∷ others) to left work)
+      → (item : Work) → ((u : ℕ) (vs : Values) → values_of args here.state ≡ costs u (Ok vs) → IsPrimitiveCall here item n vs) → IsNumberedLeft (body_env (code_text W E Outer z) a.function) p (scalar_ty row.answer) → call_need p args ≤ MAX_NEED → nodes p + args_nodes args + 1 ≤ 2000 → 1 ≤ length (answer_code sc (facts_called a.facts) p)
+      → CodeAt z.w k (args_code sc a.facts args 0 ++ (Jal ((code_text W E Outer z).links.primitive n) ∷ answer_code sc (facts_called a.facts) p))
+      → Block (code_text W E Outer z) a.function (after_call_known args p) (k + length (args_code sc a.facts args 0 ++ (Jal ((code_text W E Outer z).links.primitive n) ∷ answer_code sc (facts_called a.facts) p))) debt rest (λ fs to left. Goes (code_text W E Outer z) a others work fs to left)
       → AreLiveBefore a.live others (λ m b. any_reads args m || live_at_place p m b) rest work
       → StepIs W E Outer z debt item here (at_with k c d) (then_go (units 1) here (values_of args here.state) (λ cost vs. call_with z.p cost Primitive n vs (into p rest) work here))
   calls_primitive n row args p rest work is given count item its_call left deep few some code block live =
       let ex = its_exprs runs compose W E Outer z jumps straight held typing exprs objects gv hv hw g fs world calls answer c d a others st r waits in
-      let rd = its_ready runs compose W E Outer z jumps straight held typing exprs objects gv hv hw g fs world calls answer c d a others st r waits in
+      let facts = its_facts W E Outer z objects gv hv hw g fs c a r in
+      let rd = its_ready runs compose W E Outer z jumps straight held typing exprs objects gv hv hw g fs world calls answer c d a others st r waits a.facts facts in
       let index : ℕ = (code_text W E Outer z).links.primitive n in
-      let k1 : ℕ = k + length (args_code sc args 0) in
+      let k1 : ℕ = k + length (args_code sc a.facts args 0) in
       let fa = z.few_arguments n row is in
-      let jal_at = back z.w k (args_code sc args 0) (Jal ((code_text W E Outer z).links.primitive n) ∷ answer_code sc p) code in
-      let run = args_run compose z.w sc (body_env (code_text W E Outer z) a.function) (bases W E Outer z objects (g ∷ fs)) a.live (state_of gv hv hw (g ∷ fs)) d ex form st.idle args (map scalar_ty row.args) 0 k c rd (λ m q. live.0 m (or_left (any_reads args m) _ q)) given (all_scalar row.args) (omega (arith, deep)) (omega (arith, few)) (omega (arith, count))
-      (front z.w k (args_code sc args 0) (Jal ((code_text W E Outer z).links.primitive n) ∷ answer_code sc p) code) in
-      let len : k + length (args_code sc args 0 ++ (Jal ((code_text W E Outer z).links.primitive n) ∷ answer_code sc p)) ≡ k1 + 1 + length (answer_code sc p) = omega (arith, length-append (args_code sc args 0) (Jal ((code_text W E Outer z).links.primitive n) ∷ answer_code sc p)) in
-      let first = first_of z.w (k1 + 1) (answer_code sc p) some jal_at.1 in
+      let jal_at = back z.w k (args_code sc a.facts args 0) (Jal ((code_text W E Outer z).links.primitive n) ∷ answer_code sc (facts_called a.facts) p) code in
+      let run = args_run compose z.w sc (body_env (code_text W E Outer z) a.function) (bases W E Outer z objects (g ∷ fs)) a.live (state_of gv hv hw (g ∷ fs)) d ex form st.idle a.facts args (map scalar_ty row.args) 0 k c rd (λ m q. live.0 m (or_left (any_reads args m) _ q)) given (all_scalar row.args) (omega (arith, deep)) (omega (arith, few)) (omega (arith, count))
+      (front z.w k (args_code sc a.facts args 0) (Jal ((code_text W E Outer z).links.primitive n) ∷ answer_code sc (facts_called a.facts) p) code) in
+      let len : k + length (args_code sc a.facts args 0 ++ (Jal ((code_text W E Outer z).links.primitive n) ∷ answer_code sc (facts_called a.facts) p)) ≡ k1 + 1 + length (answer_code sc (facts_called a.facts) p) = omega (arith, length-append (args_code sc a.facts args 0) (Jal ((code_text W E Outer z).links.primitive n) ∷ answer_code sc (facts_called a.facts) p)) in
+      let first = first_of z.w (k1 + 1) (answer_code sc (facts_called a.facts) p) some jal_at.1 in
       then_soft runs compose W E Outer z jumps (StepIs W E Outer z debt item here (at_with k c d)) 0 0 debt 0 (args_nodes args) (units 1) here here (at_with k c d) a.function k k1 c d objects (InRegisters compose z.w sc (bases W E Outer z objects (g ∷ fs)) 0 (map scalar_ty row.args) c) (values_of args here.state) (λ cost vs. call_with z.p cost Primitive n vs (into p rest) work here)
       (none runs z.w (at_with k c d)) (omega arith) (omega arith) st (values_within args here.state) run (λ cost f h stop. stop)
       (λ u vs c1 same least most q path.
@@ -166,7 +182,7 @@ module _ (runs : RunLaws) (compose : RunsCompose) (W E : Type 0) (Outer : W → 
       let soft = q.soft in
       let keep : (x : ℕ) → 28 ≤ x → x < 31 → (with_reg c1 31 (4 * (k1 + 1))).regs x ≡ c.regs x = λ x le lt. other_reg c1.regs 31 (4 * (k1 + 1)) x (λ e. absurd (omega (arith, e, lt))) ∙ soft.high x le in
       let st2 = stands_soft runs compose W E Outer z jumps objects here c (with_reg c1 31 (4 * (k1 + 1))) d soft.memory soft.special (keep 28 (omega arith) (omega arith)) (keep 30 (omega arith) (omega arith)) st in
-      let called : PrimitiveIsCalled z.w (code_text W E Outer z).links row n vs (k1 + 1) (at_with index (with_reg c1 31 (4 * (k1 + 1))) d) = record {
+      let primitive_called : PrimitiveIsCalled z.w (code_text W E Outer z).links row n vs (k1 + 1) (at_with index (with_reg c1 31 (4 * (k1 + 1))) d) = record {
         at = refl;
         scalars = scalars_alone (shapes z.p.unit) (store_typing z.p.unit objects) row.args vs q.fits;
         arguments = passed sc (bases W E Outer z objects (g ∷ fs)) (shapes z.p.unit) (store_typing z.p.unit objects) c1.regs (with_reg c1 31 (4 * (k1 + 1))).regs 20 row.args vs q.fits (omega (arith, fa)) (λ x lt. other_reg c1.regs 31 (4 * (k1 + 1)) x (λ e. absurd (omega (arith, e, lt)))) q.are;
@@ -190,24 +206,34 @@ module _ (runs : RunLaws) (compose : RunsCompose) (W E : Type 0) (Outer : W → 
         high = omega (arith, le);
         low = omega (arith, ge, most, few);
         run = way1.run;
-        called = called;
+        called = primitive_called;
         outer = st2.outer;
         room = let used = st2.used_word in let room = st.room in omega (arith, used, room);
         units = omega arith;
         pages = omega arith;
         after = refl;
         returns = λ t b scalar result outer.
-            let all = after (after_call here (z.p.meaning n vs world)) (with_reg c1 31 (4 * (k1 + 1))) (k1 + 1) index t refl soft.memory (keep 28 (omega arith) (omega arith)) (keep 29 (omega arith) (omega arith)) (keep 30 (omega arith) (omega arith)) b outer in
+            let sure = (known_after compose z.w sc (body_env (code_text W E Outer z) a.function) (bases W E Outer z objects (g ∷ fs)) a.live here.state ex a.facts args u vs c same facts).sure in
+            let all = after (while_called args) (within_itself (while_called args)) sure (after_call here (z.p.meaning n vs world)) (with_reg c1 31 (4 * (k1 + 1))) (k1 + 1) index t refl soft.memory (keep 28 (omega arith) (omega arith)) (keep 29 (omega arith) (omega arith)) (keep 30 (omega arith) (omega arith)) b outer in
             record {
               objects = objects;
               stands = all.0;
-              activations = a ∷ others;
+              activations = knowing a (while_called args) ∷ others;
               under_way = all.1;
               t = scalar_ty row.answer;
               fits = scalar_alone [] (shapes z.p.unit) (record { globals = []; objects = [] }) (store_typing z.p.unit objects) row.answer (z.p.meaning n vs world).answer scalar;
               answer = result ∙ sym (word_alone (unit_scope z.p.unit) (bases W E Outer z objects []) [] (record { globals = []; objects = [] }) row.answer (z.p.meaning n vs world).answer scalar);
-              ahead = subst (λ y. Awaits (code_text W E Outer z) (a ∷ others) y debt (scalar_ty row.answer) (into p rest) work (λ acts to left. Ahead (code_text W E Outer z) acts to left work)) (sym b.at)
-                  (record { left = left; shallow = omega (arith, deep); few = omega (arith, few) }, jal_at.1, subst (λ y. Block (code_text W E Outer z) a.function y debt rest (λ to left. Ahead (code_text W E Outer z) (a ∷ others) to left work)) len block);
+              ahead = subst (λ y. Awaits (code_text W E Outer z) (knowing a (while_called args) ∷ others) y debt (scalar_ty row.answer) (into p rest) work (λ acts to left. Ahead (code_text W E Outer z) acts to left work)) (sym b.at) (
+                record {
+                  there = record { left = left; shallow = omega (arith, deep); few = omega (arith, few) };
+                  before = facts_called a.facts;
+                  fewer = called_follows a.facts (all_followed (map (typed_of_expr sc.env) args) a.facts) (all_followed_grows (map (typed_of_expr sc.env) args) a.facts);
+                  behind = after_call_known args p;
+                  later = within_itself (after_call_known args p);
+                  code = jal_at.1;
+                },
+                subst (λ y. Block (code_text W E Outer z) a.function (after_call_known args p) y debt rest (λ fs to left. Goes (code_text W E Outer z) a others work fs to left)) len block,
+              );
               live = ((λ m q. live.0 m (or_right (any_reads args m) _ q)), live.1);
             };
       })

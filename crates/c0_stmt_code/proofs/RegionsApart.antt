@@ -1,21 +1,24 @@
 -- Where words of globals, heap and frames lie, and what stays as it was while others change.
 use Rattle.std.specs.Prelude.{map, slice_get, IsTrue, Some, unwrap_or, if◌then◌else◌}
 use Rattle.std.specs.Option.{option_map}
-use Rattle.std.proofs.Common.{◌≡◌, ◌≢◌, ℕ, ◌+◌, ◌-◌, ◌<◌, ◌≤◌, Bool, true, false, List, [], ◌∷◌, ◌++◌, refl, ap, ap₂, ◌∙◌, arith, eq-eqb, ne_eqb}
+use Rattle.std.proofs.Common.{◌≡◌, ◌≢◌, ℕ, ◌+◌, ◌-◌, ◌<◌, ◌≤◌, Bool, true, false, List, [], ◌∷◌, ◌++◌, refl, ap, ap₂, ◌∙◌, subst, arith, eq-eqb, ne_eqb}
 use Rattle.std.proofs.lemmas.Bool.{cond-true, cond-false}
-use Rattle.mips_table.specs.Code.{Contents, Behind, CodeState, put}
+use Rattle.mips_table.specs.Code.{Contents, Behind, put}
 use Rattle.c0_tree.specs.Tree.{CDecl, CFunction, CUnit}
 use Rattle.c0_meaning.specs.Ty.{Ty}
 use Rattle.c0_meaning.specs.Env.{Typed, Shape, typed_of}
 use Rattle.c0_meaning.specs.Words.{all_words}
 use Rattle.c0_meaning.specs.Limits.{words_of_frame, locals_of}
 use Rattle.c0_meaning.specs.Sound.{shapes}
-use Rattle.c0_meaning.specs.State.{Frame, stack_words}
+use Rattle.c0_meaning.specs.State.{Frame, C0State, stack_words, variables_of}
 use Rattle.c0_meaning.specs.TypedState.{types_of}
 use Rattle.c0_typed.specs.Leaf.{calls_in}
+use Rattle.c0_expr_code.specs.declared.facts.Facts.{Facts}
+use Rattle.c0_expr_code.specs.Facts.{SureHold}
 use Rattle.c0_expr_code.specs.Bases.{words_of_all, LocalsHeld}
+use Rattle.c0_expr_code.specs.Relation.{FactsHold}
 use Rattle.c0_stmt_code.specs.Setup.{Setup}
-use Rattle.c0_stmt_code.specs.Ahead.{Activation}
+use Rattle.c0_stmt_code.specs.Ahead.{Activation, knowing}
 use Rattle.c0_stmt_code.specs.Standing.{scope, bases, end_of, VariablesHeld, Waiting, FunctionRuns}
 use Rattle.c0_stmt_code.proofs.PremisesFromBelow.{HeldStays}
 use Rattle.c0_stmt_code.proofs.LiveAroundSteps.{with_live}
@@ -70,16 +73,31 @@ module _ (W E : Type 0) (Outer : W → Contents → Behind → Type 0) (z : Setu
           calls = h.0.calls;
           return_at = e (end_of W E Outer z fs) (omega arith) (omega (arith, on, ws)) ∙ h.0.return_at;
           variables = variables_same objects a.live m m' m m' a.function g fs true h.0.in_frame h.0.is (λ x le lt. e x (omega (arith, le)) lt) h.0.variables;
+          forgotten = h.0.forgotten;
+          sure = h.0.sure;
         },
         waiting_same objects m m' acts fs (λ x le lt. e x le (omega (arith, on, lt))) h.1,
       )
   waiting_same objects m m' [] (g ∷ fs) e h = absurd h
   waiting_same objects m m' (a ∷ acts) [] e h = absurd h
 
-  -- the function that runs stays while the registers from 20 on and its frame's words do
-  pub runs_same : (objects : List Ty) (c c' : Contents) (a : Activation) (g : Frame) (fs : List Frame) → ((x : ℕ) → 20 ≤ x → c'.regs x ≡ c.regs x) → ((x : ℕ) → end_of W E Outer z fs ≤ x → x < end_of W E Outer z (g ∷ fs) → c'.memory x ≡ c.memory x)
-      → FunctionRuns W E Outer z objects c a g fs → FunctionRuns W E Outer z objects c' a g fs
-  runs_same objects c c' a g fs regs words h =
+  -- other facts of the function that runs
+  pub runs_knowing : (objects : List Ty) (c : Contents) (a : Activation) (known : Facts) (s : C0State) (g : Frame) (fs : List Frame) → s.frames ≡ g ∷ fs → FactsHold (scope W E Outer z a.function) (bases W E Outer z objects (g ∷ fs)) known s c → FunctionRuns W E Outer z objects c a g fs
+      → FunctionRuns W E Outer z objects c (knowing a known) g fs
+  runs_knowing objects c a known s g fs e facts h = record {
+    is = h.is;
+    return_at = h.return_at;
+    frame_at = h.frame_at;
+    variables = h.variables;
+    registers = facts.registers;
+    sure = subst (λ y. SureHold known (variables_of y)) e facts.sure;
+  }
+
+  -- the function that runs stays while the registers from 20 on and its frame's words do, as far as facts hold then
+  pub runs_same : (objects : List Ty) (c c' : Contents) (a : Activation) (g : Frame) (fs : List Frame) (known : Facts) (s : C0State) → s.frames ≡ g ∷ fs → FactsHold (scope W E Outer z a.function) (bases W E Outer z objects (g ∷ fs)) known s c'
+      → ((x : ℕ) → 20 ≤ x → c'.regs x ≡ c.regs x) → ((x : ℕ) → end_of W E Outer z fs ≤ x → x < end_of W E Outer z (g ∷ fs) → c'.memory x ≡ c.memory x)
+      → FunctionRuns W E Outer z objects c a g fs → FunctionRuns W E Outer z objects c' (knowing a known) g fs
+  runs_same objects c c' a g fs known s e facts regs words h =
       let on = frame_on z.p.unit g fs a.function h.is in
       let ws = frame_words z.p.unit a.function in
       record {
@@ -87,6 +105,8 @@ module _ (W E : Type 0) (Outer : W → Contents → Behind → Type 0) (z : Setu
         return_at = ap₂ (λ m r. if calls_in a.function.body then m else r) (words (end_of W E Outer z fs) (omega arith) (omega (arith, on, ws))) (regs 31 (omega arith)) ∙ h.return_at;
         frame_at = regs 29 (omega arith) ∙ h.frame_at;
         variables = by_form (scope W E Outer z a.function).in_registers h.variables;
+        registers = facts.registers;
+        sure = subst (λ y. SureHold known (variables_of y)) e facts.sure;
       }
     where
       by_form : (b : Bool) → LocalsHeld (scope W E Outer z a.function) (bases W E Outer z objects (g ∷ fs)) a.live (if b then c.regs else c.memory) (if b then 20 else (end_of W E Outer z (g ∷ fs) - words_of_frame (shapes z.p.unit) a.function) + 3) (types_of (scope W E Outer z a.function).env.locals) g.variables
@@ -106,4 +126,6 @@ module _ (W E : Type 0) (Outer : W → Contents → Behind → Type 0) (z : Setu
     return_at = h.return_at;
     frame_at = h.frame_at;
     variables = record { whole = h.variables.whole; held = h.variables.held; same = λ n t there is_live k less. h.variables.same n t there (was n is_live) k less };
+    registers = h.registers;
+    sure = h.sure;
   }

@@ -1,5 +1,5 @@
 -- Stretches of a run: how its steps join, with bounds from below and from above.
-use Rattle.std.proofs.Common.{◌≡◌, ◌≢◌, ℕ, zero, suc, ◌+◌, ◌≤◌, refl, ap, arith}
+use Rattle.std.proofs.Common.{◌≢◌, ℕ, zero, suc, ◌+◌, ◌≤◌, refl, ap, arith}
 use Rattle.mips_table.specs.Code.{World, CodeState, Steps, Reaches, RunLaws}
 
 module _ (laws : RunLaws) (w : World) where

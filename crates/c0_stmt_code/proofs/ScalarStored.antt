@@ -1,7 +1,7 @@
 -- A scalar is stored at a location: the state of C0 with it stands in the machine.
 use Rattle.std.specs.Prelude.{map, IsTrue, if◌then◌else◌}
 use Rattle.std.proofs.Common.{◌≡◌, ◌≢◌, ℕ, ◌+◌, ◌-◌, ◌<◌, ◌≤◌, ◌⊎◌, inl, inr, Bool, true, false, Option, List, [], ◌∷◌, refl, ap, ap₂, ◌∙◌, arith}
-use Rattle.mips_table.specs.Code.{Contents, Behind, CodeState, put as put_word}
+use Rattle.mips_table.specs.Code.{Contents, Behind, put as put_word}
 use Rattle.c0_meaning.specs.Ty.{Ty, is_scalar}
 use Rattle.c0_meaning.specs.Env.{typed_of}
 use Rattle.c0_meaning.specs.Limits.{words_of_frame}
@@ -13,7 +13,9 @@ use Rattle.c0_meaning.specs.TypedState.{types_of, LeadsFrom, Fits, store_typing}
 use Rattle.c0_typed.specs.Leaf.{calls_in}
 use Rattle.c0_expr_code.specs.Bases.{location_word, word_of_scalar, LocalsHeld}
 use Rattle.c0_stmt_code.specs.Setup.{Setup}
-use Rattle.c0_stmt_code.specs.Ahead.{Activation}
+use Rattle.c0_expr_code.specs.declared.facts.Facts.{Facts}
+use Rattle.c0_expr_code.specs.Relation.{FactsHold}
+use Rattle.c0_stmt_code.specs.Ahead.{Activation, knowing}
 use Rattle.c0_stmt_code.specs.Standing.{scope, bases, end_of, unit_scope, Waiting, FunctionRuns, UnderWay, ConfigurationStands}
 use Rattle.c0_stmt_code.proofs.PremisesFromBelow.{HeldStays, TypedStays, types_for}
 use Rattle.c0_stmt_code.proofs.ValuesStay.{word_same}
@@ -81,8 +83,9 @@ module _ (W E : Type 0) (Outer : W → Contents → Behind → Type 0) (z : Setu
 
     pub stored : (region : Region) (path : List ℕ) → LeadsFrom (shapes z.p.unit) (types_for z.p.unit objects a.function region) path t → (region ≡ locals → (scope W E Outer z a.function).in_registers ≡ false) → c'.memory ≡ put_word c.memory (place region path) (its_word v)
         → (later : ℕ → Bool) → ((n : ℕ) → IsTrue (later n) → IsTrue (a.live n) ⊎ ((region ≡ locals) × (path ≡ n ∷ [])))
-        → ConfigurationStands W E Outer z objects (record (standing_at gv hv hw (g ∷ fs) world calls answer) { state = write (state_of gv hv hw (g ∷ fs)) (record { region = region; path = path }) v }) c' d × UnderWay W E Outer z objects c' (with_live a later ∷ others) (write (state_of gv hv hw (g ∷ fs)) (record { region = region; path = path }) v).frames
-    stored globals path l form m later grows =
+        → (known : Facts) → FactsHold (scope W E Outer z a.function) (bases W E Outer z objects (g ∷ fs)) known (write (state_of gv hv hw (g ∷ fs)) (record { region = region; path = path }) v) c'
+        → ConfigurationStands W E Outer z objects (record (standing_at gv hv hw (g ∷ fs) world calls answer) { state = write (state_of gv hv hw (g ∷ fs)) (record { region = region; path = path }) v }) c' d × UnderWay W E Outer z objects c' (knowing (with_live a later) known ∷ others) (write (state_of gv hv hw (g ∷ fs)) (record { region = region; path = path }) v).frames
+    stored globals path l form m later grows known facts =
         let i = held.inside (types_of (map typed_of z.p.unit.globals)) path t l scalar in
         let w = words_by_types (shapes z.p.unit) (map typed_of z.p.unit.globals) in
         let gf = z.globals_fit in
@@ -114,11 +117,11 @@ module _ (W E : Type 0) (Outer : W → Contents → Behind → Type 0) (z : Setu
             idle = st.idle;
           },
           (
-            fewer_live W E Outer z held objects c' a later g fs (λ n y. kept_live globals path n (a.live n) (λ e. absurd (cc)) (grows n y)) (runs_same W E Outer z held objects c c' a g fs above (λ x le lt. other x (λ e. absurd (omega (arith, e, le, i, w, gf, hf)))) r),
+            fewer_live W E Outer z held objects c' (knowing a known) later g fs (λ n y. kept_live globals path n (a.live n) (λ e. absurd (cc)) (grows n y)) (runs_same W E Outer z held objects c c' a g fs known (write (state_of gv hv hw (g ∷ fs)) (record { region = globals; path = path }) v) refl facts above (λ x le lt. other x (λ e. absurd (omega (arith, e, le, i, w, gf, hf)))) r),
             waiting_same W E Outer z held objects c.memory c'.memory others fs (λ x le lt. other x (λ e. absurd (omega (arith, e, le, i, w, gf, hf)))) waits,
           ),
         )
-    stored heap path l form m later grows =
+    stored heap path l form m later grows known facts =
         let i = held.inside objects path t l scalar in
         let w = words_by_types (shapes z.p.unit) (map typed_of z.p.unit.globals) in
         let gf = z.globals_fit in
@@ -150,11 +153,11 @@ module _ (W E : Type 0) (Outer : W → Contents → Behind → Type 0) (z : Setu
             idle = st.idle;
           },
           (
-            fewer_live W E Outer z held objects c' a later g fs (λ n y. kept_live heap path n (a.live n) (λ e. absurd (cc)) (grows n y)) (runs_same W E Outer z held objects c c' a g fs above (λ x le lt. other x (λ e. absurd (omega (arith, e, le, i, u, o, hf)))) r),
+            fewer_live W E Outer z held objects c' (knowing a known) later g fs (λ n y. kept_live heap path n (a.live n) (λ e. absurd (cc)) (grows n y)) (runs_same W E Outer z held objects c c' a g fs known (write (state_of gv hv hw (g ∷ fs)) (record { region = heap; path = path }) v) refl facts above (λ x le lt. other x (λ e. absurd (omega (arith, e, le, i, u, o, hf)))) r),
             waiting_same W E Outer z held objects c.memory c'.memory others fs (λ x le lt. other x (λ e. absurd (omega (arith, e, le, i, u, o, hf)))) waits,
           ),
         )
-    stored locals path l form m later grows =
+    stored locals path l form m later grows known facts =
         let i = held.inside (types_of (scope W E Outer z a.function).env.locals) path t l scalar in
         let at = local_at path (scope W E Outer z a.function).in_registers (form refl) in
         let on = frame_on z.p.unit g fs a.function r.is in
@@ -194,6 +197,8 @@ module _ (W E : Type 0) (Outer : W → Contents → Behind → Type 0) (z : Setu
               return_at = ap₂ (λ m r. if calls_in a.function.body then m else r) (other (end_of W E Outer z fs) (λ e. absurd (omega (arith, e, at)))) (above 31 (omega arith)) ∙ r.return_at;
               frame_at = above 29 (omega arith) ∙ r.frame_at;
               variables = by_form (scope W E Outer z a.function).in_registers (form refl) at here (λ y ne. other y ne) r.variables;
+              registers = facts.registers;
+              sure = facts.sure;
             },
             waiting_same W E Outer z held objects c.memory c'.memory others fs (λ x le lt. other x (λ e. absurd (omega (arith, e, lt, at)))) waits,
           ),

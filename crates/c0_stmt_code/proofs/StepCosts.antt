@@ -91,7 +91,7 @@ module _ (W E : Type 0) (Outer : W → Contents → Behind → Type 0) (z : Setu
   return_few [] k debt answer target work ahead = absurd ahead
 
   place_few : (acts : List Activation) (k debt : ℕ) (t : Ty) (place : CExpr) (rest : CStmts) (work : List Work) → Awaits (code_text W E Outer z) acts k debt t (into place rest) work (λ others to left. Ahead (code_text W E Outer z) others to left work) → nodes place ≤ 2000
-  place_few (a ∷ others) k debt t place rest work ahead = ahead.0.few
+  place_few (a ∷ others) k debt t place rest work ahead = ahead.0.there.few
   place_few [] k debt t place rest work ahead = absurd ahead
 
   pub costs_some : (debt : ℕ) (item : Work) (work : List Work) (h : Configuration W E) (s : CodeState) → Simulated W E Outer z debt (item ∷ work) h s → CostsSome h (work_step z.p item work h)

@@ -15,12 +15,13 @@ use Rattle.c0_expr_code.specs.Bases.{RegionHeld}
 use Rattle.c0_expr_code.specs.Relation.{KeepsRegisters, Evaluates, Splits}
 use Rattle.c0_stmt_code.specs.Setup.{Setup}
 use Rattle.c0_stmt_code.specs.Journey.{RunStopped}
-use Rattle.c0_stmt_code.specs.Ahead.{Activation, Block, Ahead, AllAreLive}
+use Rattle.c0_stmt_code.specs.Ahead.{Activation, Block, Ahead, AllAreLive, knowing}
+use Rattle.c0_stmt_code.proofs.FunctionsUnderWay.{under_fewer}
 use Rattle.c0_stmt_code.proofs.LiveAroundSteps.{AreLiveBehind, pushed_live}
 use Rattle.c0_stmt_code.specs.Standing.{code_text, scope, bases, unit_scope, UnderWay, ConfigurationStands, Simulated, AtExit, IsGone, StepIs}
 use Rattle.c0_stmt_code.proofs.RunStretches.{Stretch, on, of, away, within}
 use Rattle.c0_stmt_code.proofs.UnitsWithinNodes.{Within}
-use Rattle.c0_stmt_code.proofs.WorkAsCode.{taken, behind}
+use Rattle.c0_stmt_code.proofs.WorkAsCode.{Goes, taken, behind}
 
 module _ (W E : Type 0) (Outer : W → Contents → Behind → Type 0) (z : Setup W E Outer) where
   -- what a step comes to that calls no primitive
@@ -76,7 +77,7 @@ module _ (runs : RunLaws) (compose : RunsCompose) (W E : Type 0) (Outer : W → 
   -- a step is done where the next statements stand
   pub arrives : (l n debt debt' : ℕ) (cost : Cost) (h h' : Configuration W E) (s : CodeState) (k : ℕ) (c : Contents) (d : Behind) (objects : List Ty) (a : Activation) (others : List Activation) (rest : CStmts) (work : List Work)
       → Path l n s (at_with k c d) → cost.own ≤ 2048 * l → n + debt' ≤ 30 * cost.own + debt → calls_ended h' ≡ calls_ended h → Standing objects h' c d → UnderWay W E Outer z objects c (a ∷ others) h'.state.frames
-      → Block (code_text W E Outer z) a.function k debt' rest (λ to left. Ahead (code_text W E Outer z) (a ∷ others) to left work) → AreLiveBehind a.live others rest work → GoesOn W E Outer z debt h s (Go cost (push rest work) h')
+      → Block (code_text W E Outer z) a.function a.facts k debt' rest (λ fs to left. Goes (code_text W E Outer z) a others work fs to left) → AreLiveBehind a.live others rest work → GoesOn W E Outer z debt h s (Go cost (push rest work) h')
   arrives l n debt debt' cost h h' s k c d objects a others rest work path low high en st under block live =
       let b = behind (code_text W E Outer z) a others k debt' rest work block in
       let owed : debt' ≡ b.count + b.left = b.owed in
@@ -84,7 +85,7 @@ module _ (runs : RunLaws) (compose : RunsCompose) (W E : Type 0) (Outer : W → 
       let way = within runs z.w (l + 0) (n + b.count) l (n + b.count) s (at_with b.to c d) (omega arith) (omega arith) (on runs z.w l n 0 b.count s (at_with k c d) (at_with b.to c d) path go) in
       let le = way.high in
       let ge = way.low in
-      (at_with b.to c d, b.left, record { own = way.own; high = omega (arith, le, high, owed); low = omega (arith, ge, low); ended_so = en; run = way.run }, simulated b.left (push rest work) h' b.to c d objects a others st under b.ahead (pushed_live a others rest work live))
+      (at_with b.to c d, b.left, record { own = way.own; high = omega (arith, le, high, owed); low = omega (arith, ge, low); ended_so = en; run = way.run }, simulated b.left (push rest work) h' b.to c d objects (knowing a b.known) others st (under_fewer W E Outer z objects c a others h'.state.frames b.known b.fewer under) b.ahead (pushed_live (knowing a b.known) others rest work live))
 
   -- an evaluation on the way of a step: it leads on, or the step stops at its fault's exit
   pub then_comes : {A : Type 0} (l n own debt lo hi : ℕ) (cost : Cost) (h h0 : Configuration W E) (s : CodeState) (f : CFunction) (from to : ℕ) (c : Contents) (d : Behind) (objects : List Ty) (Q : A → Contents → Type 0) (e : Costed A) (go : Cost → A → Step W E)

@@ -1,5 +1,6 @@
 -- What is left to do, as code that stands ahead: where each work item's code is, and how control comes from one to the next.
 use Rattle.std.specs.Prelude.{◌≡◌, ℕ, zero, suc, ◌+◌, ◌<◌, ◌≤◌, Bool, true, false, ◌||◌, IsTrue, List, [], ◌∷◌, ◌++◌, length, Some}
+use Rattle.mips_table.specs.declared.inst.Inst.{Inst}
 use Rattle.mips_table.specs.Code.{World, CodeAt}
 use Rattle.c0_tree.specs.Primitives.{CPrimitive}
 use Rattle.c0_tree.specs.Size.{nodes, stmt_nodes, stmts_nodes}
@@ -11,16 +12,23 @@ use Rattle.c0_meaning.specs.Statement.{MAX_NEED, new_need}
 use Rattle.c0_meaning.specs.Numbered.{IsNumberedLeft, IsNumberedTest, IsNumbered, AreNumbered}
 use Rattle.c0_meaning.specs.Running.{Target, into, outward, Work, act_on, again, leave}
 use Rattle.c0_typed.specs.Leaf.{are_calling, are_free_of_calls, calls_in, is_calling, is_free_of_calls}
+use Rattle.c0_expr_code.specs.declared.facts.Facts.{Facts}
+use Rattle.c0_expr_code.specs.Facts.{IsWithin}
 use Rattle.c0_expr_code.specs.Scope.{Scope}
 use Rattle.c0_expr_code.specs.Reads.{reads, Covers}
 use Rattle.c0_stmt_code.specs.Live.{live_at_place, is_live, are_live}
-use Rattle.c0_stmt_code.specs.Code.{Links, skip, answer_code, while_code, stmt_code, stmts_code, return_code}
+use Rattle.c0_stmt_code.specs.Code.{Links, skip, answer_code, answered_facts, behind_stmt, tested_facts, told_facts, turn_facts, while_code, stmt_code, stmts_code, return_code}
 
--- a function that is under way, the word of the code to which it returns, and which of its variables stand in the machine
+-- a function that is under way, the word of the code to which it returns, which of its variables stand in the machine, and what is known of them
 pub record Activation : Type 0 where
   pub function : CFunction
   pub to : ℕ
   pub live : ℕ → Bool
+  pub facts : Facts
+
+-- where this is known of its variables
+abbrev pub knowing : Activation → Facts → Activation
+knowing a fs = record { function = a.function; to = a.to; live = a.live; facts = fs }
 
 -- the largest number of nodes of what stands in a function
 abbrev pub MAX_NODES : ℕ
@@ -45,20 +53,21 @@ abbrev pub Skips : World → ℕ → ℕ → ℕ → Type 0
 Skips w zero k to = k ≡ to
 Skips w (suc n) k to = (over : ℕ) × (over < 32768) × (w.code k ≡ Some (skip over)) × Skips w n (k + 1 + over) to
 
--- A statement of a function stands at a word. Functions whose variables stand in registers call nothing.
-pub record StatementStands (x : Text) (f : CFunction) (k : ℕ) (t : CStmt) : Type 0 where
+-- A statement of a function stands at a word, by what is known before it. Functions whose variables stand in registers call nothing.
+pub record StatementStands (x : Text) (f : CFunction) (fs : Facts) (k : ℕ) (t : CStmt) : Type 0 where
   pub typed : IsNumbered (body_env x f) t
   pub few : stmt_nodes t ≤ MAX_NODES
   pub free : (x.scope f).in_registers ≡ true → IsTrue (is_free_of_calls t)
   pub calls : IsTrue (is_calling t) → calls_in f.body ≡ true
-  pub code : CodeAt x.w k (stmt_code (x.scope f) x.links t)
+  pub code : CodeAt x.w k (stmt_code (x.scope f) fs x.links t)
 
--- Statements of a function stand at a word, each behind the one before it. Behind the last, jumps lead to where `next` holds. `debt` is how many
--- jumps are ahead in all, those of `next` among them.
-abbrev pub Block : Text → CFunction → (at debt : ℕ) → CStmts → (next : ℕ → ℕ → Type 0) → Type 0
-Block x f k debt done follows = (n : ℕ) × (to : ℕ) × (left : ℕ) × (debt ≡ n + left) × Skips x.w n k to × follows to left
-Block x f k debt (next t rest) follows =
-    StatementStands x f k t × Block x f (k + length (stmt_code (x.scope f) x.links t)) debt rest follows
+-- Statements of a function stand at a word, each behind the one before it, by what is known there. Behind the last, jumps lead to where `next` holds
+-- with some of what is known then. `debt` is how many jumps are ahead in all, those of `next` among them.
+abbrev pub Block : Text → CFunction → Facts → (at debt : ℕ) → CStmts → (next : Facts → ℕ → ℕ → Type 0) → Type 0
+Block x f fs k debt done follows =
+    (known : Facts) × IsWithin known fs × (n : ℕ) × (to : ℕ) × (left : ℕ) × (debt ≡ n + left) × Skips x.w n k to × follows known to left
+Block x f fs k debt (next t rest) follows =
+    StatementStands x f fs k t × Block x f (behind_stmt (x.scope f) fs t) (k + length (stmt_code (x.scope f) fs x.links t)) debt rest follows
 
 -- a place that an answer of a type goes to, which is found with free registers from 8 on
 pub record HasAnswerPlace (x : Text) (f : CFunction) (place : CExpr) (t : Ty) : Type 0 where
@@ -66,41 +75,57 @@ pub record HasAnswerPlace (x : Text) (f : CFunction) (place : CExpr) (t : Ty) : 
   pub shallow : new_need place ≤ MAX_NEED
   pub few : nodes place ≤ MAX_NODES
 
+-- An answer's place stands at a word, by some of what is known there; and what is known behind it is some of what is known once the answer has
+-- gone there.
+pub record AnswerStands (x : Text) (f : CFunction) (fs : Facts) (k : ℕ) (place : CExpr) (t : Ty) : Type 0 where
+  pub there : HasAnswerPlace x f place t
+  pub before : Facts
+  pub fewer : IsWithin before fs
+  pub behind : Facts
+  pub later : IsWithin behind (answered_facts (x.scope f) fs place)
+  pub code : CodeAt x.w k (answer_code (x.scope f) before place)
+
 -- where an answer goes: to a place of the caller, whose code and statements behind it stand where the callee returns to; or out
 abbrev pub Awaits : Text → List Activation → (to debt : ℕ) → Ty → Target → List Work → (List Activation → ℕ → ℕ → Type 0) → Type 0
 Awaits x (a ∷ rest) to debt t (into place behind) work follows =
-    HasAnswerPlace x a.function place t × CodeAt x.w to (answer_code (x.scope a.function) place)
-    × Block x a.function (to + length (answer_code (x.scope a.function) place)) debt behind (follows (a ∷ rest))
+    (h : AnswerStands x a.function a.facts to place t)
+    × Block x a.function h.behind (to + length (answer_code (x.scope a.function) h.before place)) debt behind (λ fs. follows (knowing a fs ∷ rest))
 Awaits x [] to debt t outward [] follows = to ≡ x.back
 Awaits x activations to debt t target work follows = ⊥
 
--- a loop of a function stands at a word
-pub record LoopStands (x : Text) (f : CFunction) (k : ℕ) (t : CExpr) (body : CStmts) : Type 0 where
+-- the code of a loop's body, and of the loop, by what is known before each test
+abbrev pub loop_body : Text → CFunction → Facts → CExpr → CStmts → List Inst
+loop_body x f fs t body = stmts_code (x.scope f) (told_facts (x.scope f) fs t true) x.links body
+
+abbrev pub looped_code : Text → CFunction → Facts → CExpr → CStmts → List Inst
+looped_code x f fs t body = while_code (x.scope f) fs t (loop_body x f fs t body)
+
+-- a loop of a function stands at a word, by what is known before each test: its body ends nothing of it
+pub record LoopStands (x : Text) (f : CFunction) (fs : Facts) (k : ℕ) (t : CExpr) (body : CStmts) : Type 0 where
   pub test : IsNumberedTest (body_env x f) t bool
   pub body_typed : AreNumbered (body_env x f) body
   pub few : nodes t + stmts_nodes body ≤ MAX_NODES
   pub free : (x.scope f).in_registers ≡ true → IsTrue (are_free_of_calls body)
   pub calls : IsTrue (are_calling body) → calls_in f.body ≡ true
-  pub code : CodeAt x.w k (while_code (x.scope f) t (stmts_code (x.scope f) x.links body))
+  pub stays : IsWithin fs (turn_facts (x.scope f) fs body)
+  pub code : CodeAt x.w k (looped_code x f fs t body)
 
--- the code of a function's statements
-abbrev pub its_code : Text → CFunction → CStmts → ℕ
-its_code x f ss = length (stmts_code (x.scope f) x.links ss)
-
--- a function's answer and its return stand at a word
-pub record ReturnStands (x : Text) (f : CFunction) (k : ℕ) (answer : CExpr) : Type 0 where
+-- a function's answer and its return stand at a word, by what is known there
+pub record ReturnStands (x : Text) (f : CFunction) (fs : Facts) (k : ℕ) (answer : CExpr) : Type 0 where
   pub test : IsNumberedTest (body_env x f) answer (ty_of f.answer)
   pub few : nodes answer ≤ MAX_NODES
-  pub code : CodeAt x.w k (return_code (x.scope f) (calls_in f.body) answer)
+  pub code : CodeAt x.w k (return_code (x.scope f) fs (calls_in f.body) answer)
 
 -- what is left to do in these functions, the newest first, stands ahead of a word
 abbrev pub Ahead : Text → List Activation → (at debt : ℕ) → List Work → Type 0
-Ahead x (a ∷ rest) k debt (act_on t behind ∷ work) = Block x a.function k debt (next t behind) (λ to left. Ahead x (a ∷ rest) to left work)
+Ahead x (a ∷ rest) k debt (act_on t behind ∷ work) =
+    Block x a.function a.facts k debt (next t behind) (λ fs to left. Ahead x (knowing a fs ∷ rest) to left work)
 Ahead x (a ∷ rest) k debt (again t body behind ∷ work) =
-    (from : ℕ) × LoopStands x a.function from t body × (k ≡ from + 1 + its_code x a.function body)
-    × Block x a.function (from + length (while_code (x.scope a.function) t (stmts_code (x.scope a.function) x.links body))) debt behind (λ to left. Ahead x (a ∷ rest) to left work)
+    (from : ℕ) × LoopStands x a.function a.facts from t body × (k ≡ from + 1 + length (loop_body x a.function a.facts t body))
+    × Block x a.function (tested_facts (x.scope a.function) a.facts t) (from + length (looped_code x a.function a.facts t body)) debt behind
+    (λ fs to left. Ahead x (knowing a fs ∷ rest) to left work)
 Ahead x (a ∷ rest) k debt (leave answer target ∷ work) =
-    ReturnStands x a.function k answer × Awaits x rest a.to debt (ty_of a.function.answer) target work (λ others to left. Ahead x others to left work)
+    ReturnStands x a.function a.facts k answer × Awaits x rest a.to debt (ty_of a.function.answer) target work (λ others to left. Ahead x others to left work)
 Ahead x activations k debt work = ⊥
 
 -- which variables of the function that runs what is left to do may read before it assigns them

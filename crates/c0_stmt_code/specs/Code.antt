@@ -12,11 +12,15 @@ use Rattle.c0_meaning.specs.Env.{typed_of}
 use Rattle.c0_meaning.specs.Words.{words, all_words}
 use Rattle.c0_meaning.specs.Operators.{StackOut}
 use Rattle.c0_typed.specs.Leaf.{are_calling}
+use Rattle.c0_typed.specs.Typed.{typed_of_expr, typed_of_stmt, typed_of_stmts}
+use Rattle.c0_expr_code.specs.declared.facts.Facts.{Facts}
+use Rattle.c0_expr_code.specs.Facts.{facts_called, facts_followed, overwritten, renewed, start_facts, facts_told}
 use Rattle.c0_expr_code.specs.Scope.{Scope}
 use Rattle.c0_expr_code.specs.FrameSetting.{FrameSetting, frame_back, frame_setting}
 use Rattle.c0_expr_code.specs.Code.{AddressingMode, Made, register_of_variable, constant_code, access_code, operand_code, operand_register, made, value_code}
 use Rattle.c0_expr_code.specs.Test.{test_code}
 use Rattle.c0_asm_body.specs.Code.{asm_code}
+use Rattle.c0_stmt_code.specs.Behind.{all_changed, answer_known, behind, behind_all, stored_facts}
 use Rattle.c0_stmt_code.specs.Live.{is_cleared}
 
 -- the jump indices of what calls name: the functions and the primitives by their numbers, and the routine that takes a new object
@@ -41,8 +45,8 @@ stored_code q r (Some x) place = Addu x q 0 ∷ []
 stored_code q r None place = access_code (λ b k. Sw q b k) r (place r)
 
 -- an answer in register 2 goes to a place
-abbrev pub answer_code : Scope → CExpr → List Inst
-answer_code sc p = stored_code ANSWER EXPRESSIONS (made sc p).stands (made sc p).place
+abbrev pub answer_code : Scope → Facts → CExpr → List Inst
+answer_code sc fs p = stored_code ANSWER EXPRESSIONS (made sc fs p).register (made sc fs p).place
 
 -- a value goes to a variable that stands in a register, or first to a register and from there to a place
 abbrev pub assigned_code : Option ℕ → Made → Made → List Inst
@@ -50,21 +54,21 @@ assigned_code (Some x) p v = v.value x EXPRESSIONS
 assigned_code None p v = operand_code v EXPRESSIONS ++ access_code (λ b k. Sw (operand_register v EXPRESSIONS) b k) 9 (p.place 9)
 
 -- an assignment
-abbrev pub assign_code : Scope → CExpr → CExpr → List Inst
-assign_code sc p v = assigned_code (made sc p).stands (made sc p) (made sc v)
+abbrev pub assign_code : Scope → Facts → CExpr → CExpr → List Inst
+assign_code sc fs p v = assigned_code (made sc fs p).register (made sc fs p) (made sc fs v)
 
--- arguments, of which the first has the number i, go to their registers
-abbrev pub args_code : Scope → List CExpr → (i : ℕ) → List Inst
-args_code sc [] i = []
-args_code sc (e ∷ es) i = value_code sc e (register_of_variable i) EXPRESSIONS ++ args_code sc es (suc i)
+-- arguments, of which the first has the number i, go to their registers: a parameter that stood in one does no longer
+abbrev pub args_code : Scope → Facts → List CExpr → (i : ℕ) → List Inst
+args_code sc fs [] i = []
+args_code sc fs (e ∷ es) i = value_code sc fs e (register_of_variable i) EXPRESSIONS ++ args_code sc (overwritten fs i) es (suc i)
 
 -- a call
-abbrev pub call_code : Scope → Links → Kind → ℕ → List CExpr → CExpr → List Inst
-call_code sc x kind n args p = args_code sc args 0 ++ (Jal (callee_index x kind n) ∷ answer_code sc p)
+abbrev pub call_code : Scope → Facts → Links → Kind → ℕ → List CExpr → CExpr → List Inst
+call_code sc fs x kind n args p = args_code sc fs args 0 ++ (Jal (callee_index x kind n) ∷ answer_code sc (facts_called fs) p)
 
 -- `new` of a type of so many words
-abbrev pub new_code : Scope → Links → ℕ → CExpr → List Inst
-new_code sc x n p = constant_code ANSWER (n % 2 ^ 32) ++ (Jal x.new_object ∷ answer_code sc p)
+abbrev pub new_code : Scope → Facts → Links → ℕ → CExpr → List Inst
+new_code sc fs x n p = constant_code ANSWER (n % 2 ^ 32) ++ (Jal x.new_object ∷ answer_code sc (renewed fs) p)
 
 -- the other branch of an `if`, where there is one: the first jumps over it
 abbrev pub otherwise : CStmts → List Inst → List Inst
@@ -77,34 +81,57 @@ otherwise_at done = 0
 otherwise_at (next s rest) = 1
 
 -- an `if`, by the code of its branches
-abbrev pub choice_code : Scope → CExpr → CStmts → (yes_code no_code : List Inst) → List Inst
-choice_code sc t b yes_code no_code = test_code sc t false ((length yes_code + otherwise_at b) % 2 ^ 16) EXPRESSIONS ++ (yes_code ++ otherwise b no_code)
+abbrev pub choice_code : Scope → Facts → CExpr → CStmts → (yes_code no_code : List Inst) → List Inst
+choice_code sc fs t b yes_code no_code =
+    test_code sc fs t false ((length yes_code + otherwise_at b) % 2 ^ 16) EXPRESSIONS ++ (yes_code ++ otherwise b no_code)
 
 -- The distance back from the end of a loop's test to its body, modulo 2 ^ 16. Where there is no body, the test goes back to the jump before it, which
 -- does nothing then: so each turn leads elsewhere.
-abbrev pub back : Scope → CExpr → List Inst → ℕ
-back sc t body = (2 ^ 16 - (max (length body) 1 + length (test_code sc t true 0 EXPRESSIONS)) % 2 ^ 16) % 2 ^ 16
+abbrev pub back : Scope → Facts → CExpr → List Inst → ℕ
+back sc fs t body = (2 ^ 16 - (max (length body) 1 + length (test_code sc fs t true 0 EXPRESSIONS)) % 2 ^ 16) % 2 ^ 16
 
 -- the test of a loop whose body is this code
-abbrev pub turn_code : Scope → CExpr → List Inst → List Inst
-turn_code sc t body = test_code sc t true (back sc t body) EXPRESSIONS
+abbrev pub turn_code : Scope → Facts → CExpr → List Inst → List Inst
+turn_code sc fs t body = test_code sc fs t true (back sc fs t body) EXPRESSIONS
 
 -- a loop, by the code of its body: the test stands behind it
-abbrev pub while_code : Scope → CExpr → List Inst → List Inst
-while_code sc t body = skip (length body) ∷ (body ++ turn_code sc t body)
+abbrev pub while_code : Scope → Facts → CExpr → List Inst → List Inst
+while_code sc fs t body = skip (length body) ∷ (body ++ turn_code sc fs t body)
 
--- a statement, and statements one after another
+-- what is known behind a statement of a function, and behind statements
+abbrev pub behind_stmt : Scope → Facts → CStmt → Facts
+behind_stmt sc fs s = behind sc.in_registers (typed_of_stmt sc.env s) fs
+
+abbrev pub behind_stmts : Scope → Facts → CStmts → Facts
+behind_stmts sc fs ss = behind_all sc.in_registers (typed_of_stmts sc.env ss) fs
+
+-- what is known once an answer has gone to its place
+abbrev pub answered_facts : Scope → Facts → CExpr → Facts
+answered_facts sc fs p = answer_known sc.in_registers (typed_of_expr sc.env p) (stored_facts (typed_of_expr sc.env p) fs)
+
+-- what is known behind a test, where it came out so, and where the test of a loop with this body begins, each time
+abbrev pub tested_facts : Scope → Facts → CExpr → Facts
+tested_facts sc fs t = facts_followed (typed_of_expr sc.env t) fs
+
+abbrev pub told_facts : Scope → Facts → CExpr → Bool → Facts
+told_facts sc fs t b = facts_told (typed_of_expr sc.env t) b fs
+
+abbrev pub turn_facts : Scope → Facts → CStmts → Facts
+turn_facts sc fs body = all_changed (typed_of_stmts sc.env body) fs
+
+-- a statement, and statements one after another, by what is known before them
 abbrev mutual
-  pub stmt_code : Scope → Links → CStmt → List Inst
-  stmt_code sc x (assign s p v) = assign_code sc p v
-  stmt_code sc x (call s p cs f args) = call_code sc x f.kind f.number args p
-  stmt_code sc x (new s p t ts) = new_code sc x (words sc.env.structs (ty_of t)) p
-  stmt_code sc x (choice s t a b) = choice_code sc t b (stmts_code sc x a) (stmts_code sc x b)
-  stmt_code sc x (loop s t b) = while_code sc t (stmts_code sc x b)
+  pub stmt_code : Scope → Facts → Links → CStmt → List Inst
+  stmt_code sc fs x (assign s p v) = assign_code sc fs p v
+  stmt_code sc fs x (call s p cs f args) = call_code sc fs x f.kind f.number args p
+  stmt_code sc fs x (new s p t ts) = new_code sc fs x (words sc.env.structs (ty_of t)) p
+  stmt_code sc fs x (choice s t a b) =
+      choice_code sc fs t b (stmts_code sc (told_facts sc fs t true) x a) (stmts_code sc (told_facts sc fs t false) x b)
+  stmt_code sc fs x (loop s t b) = while_code sc (turn_facts sc fs b) t (stmts_code sc (told_facts sc (turn_facts sc fs b) t true) x b)
 
-  pub stmts_code : Scope → Links → CStmts → List Inst
-  stmts_code sc x done = []
-  stmts_code sc x (next s rest) = stmt_code sc x s ++ stmts_code sc x rest
+  pub stmts_code : Scope → Facts → Links → CStmts → List Inst
+  stmts_code sc fs x done = []
+  stmts_code sc fs x (next s rest) = stmt_code sc fs x s ++ stmts_code sc (behind_stmt sc fs s) x rest
 
 -- the frame's word of a number: register 29 is the frame's end
 abbrev pub frame_slot : FrameSetting → ℕ → AddressingMode
@@ -191,14 +218,18 @@ abbrev pub exit_code : FrameSetting → Bool → List Inst
 exit_code st calling = if st.in_registers then register_return calling else frame_return st calling
 
 -- the answer goes to register 2, and the function returns
-abbrev pub return_code : Scope → Bool → CExpr → List Inst
-return_code sc calling answer = value_code sc answer ANSWER EXPRESSIONS ++ exit_code (frame_setting sc) calling
+abbrev pub return_code : Scope → Facts → Bool → CExpr → List Inst
+return_code sc fs calling answer = value_code sc fs answer ANSWER EXPRESSIONS ++ exit_code (frame_setting sc fs) calling
+
+-- what is known at a function's begin
+abbrev pub first_facts : Scope → (params : ℕ) → Facts
+first_facts sc params = start_facts sc.in_registers params
 
 -- a function that has statements
 abbrev pub statements_function : Scope → Links → (params : ℕ) → List CDecl → CStmts → CExpr → List Inst
 statements_function sc x params locals stmts answer =
-    entry_code (frame_setting sc) (is_cleared locals stmts answer) params (length locals) (all_words sc.env.structs (map typed_of locals)) (are_calling stmts) ++
-    (stmts_code sc x stmts ++ return_code sc (are_calling stmts) answer)
+    entry_code (frame_setting sc (first_facts sc params)) (is_cleared locals stmts answer) params (length locals) (all_words sc.env.structs (map typed_of locals)) (are_calling stmts) ++
+    (stmts_code sc (first_facts sc params) x stmts ++ return_code sc (behind_stmts sc (first_facts sc params) stmts) (are_calling stmts) answer)
 
 -- a function that has an asm body: it needs no frame, and the stack is tested all the same
 abbrev pub asm_function : FrameSetting → (params : ℕ) → List ℕ → List Inst
@@ -207,7 +238,7 @@ asm_function st params words = stack_test st SCRATCH ++ (asm_code params words +
 -- a body's code
 abbrev pub body_code : Scope → Links → ℕ → CBody → List Inst
 body_code sc x params (code locals stmts answer) = statements_function sc x params locals stmts answer
-body_code sc x params (asm text span words) = asm_function (frame_setting sc) params words
+body_code sc x params (asm text span words) = asm_function (frame_setting sc (first_facts sc params)) params words
 
 -- a function's code
 abbrev pub function_code : Scope → Links → CFunction → List Inst

@@ -1,5 +1,5 @@
 -- What the emitters say of the code that they append, and that the functions of a well formed unit have expressions that fit the registers.
-use Rattle.std.specs.Prelude.{◌≡◌, ℕ, ◌≤◌, Bool, if◌then◌else◌, List, [], ◌∷◌, length, map, IsTrue, Some, slice_get}
+use Rattle.std.specs.Prelude.{◌≡◌, ℕ, ◌≤◌, Bool, true, false, if◌then◌else◌, List, [], ◌∷◌, length, map, IsTrue, Some, slice_get}
 use Rattle.std.specs.List.{All}
 use Rattle.mips_table.specs.declared.inst.Inst.{Inst}
 use Rattle.masm.specs.declared.registers.CodeAddresses.{CodeAddresses}
@@ -22,7 +22,7 @@ use Rattle.c0_expr_code.specs.Code.{access_code}
 use Rattle.c0_expr_code.specs.Emit.{access_inst}
 use Rattle.c0_expr_code.specs.FrameSetting.{FrameSetting}
 use Rattle.c0_expr_code.specs.Scope.{exit_of, scope_of}
-use Rattle.c0_expr_code.specs.SettingIn.{setting_in}
+use Rattle.c0_expr_code.specs.SettingIn.{setting_in, setting_told}
 use Rattle.c0_stmt_code.specs.Code.{entry_code, frame_slot, function_code, links_of, register_entry, skip}
 use Rattle.c0_stmt_code.specs.TypedCode.{typed_call, typed_choice, typed_new, typed_otherwise, typed_stmts_code, typed_while}
 use Rattle.c0_stmt_code.specs.TypedFunction.{typed_body_code, typed_function_code, typed_statements, words_of_locals}
@@ -84,13 +84,18 @@ new_in s addresses n p = typed_new (setting_in s) (links_of addresses) n (typed_
 abbrev pub otherwise_in : CodeSetting → CodeAddresses → List TypedStmt → List Inst
 otherwise_in s addresses ss = typed_otherwise (typed_stmts_view ss) (typed_stmts_in s addresses ss)
 
+-- of typed statements where a test came out so
+abbrev pub told_stmts_in : CodeSetting → TypedExpr → Bool → CodeAddresses → List TypedStmt → List Inst
+told_stmts_in s t b addresses ss = typed_stmts_in (setting_told s t b) addresses ss
+
 -- of an `if`
 abbrev pub choice_in : CodeSetting → CodeAddresses → TypedExpr → (yes no : List TypedStmt) → List Inst
-choice_in s addresses t a b = typed_choice (setting_in s) (typed_expr_view t) (typed_stmts_view b) (typed_stmts_in s addresses a) (typed_stmts_in s addresses b)
+choice_in s addresses t a b =
+    typed_choice (setting_in s) (typed_expr_view t) (typed_stmts_view b) (told_stmts_in s t true addresses a) (told_stmts_in s t false addresses b)
 
--- of a loop
+-- of a loop, where the setting is that of its test
 abbrev pub while_in : CodeSetting → CodeAddresses → TypedExpr → List TypedStmt → List Inst
-while_in s addresses t b = typed_while (setting_in s) (typed_expr_view t) (typed_stmts_in s addresses b)
+while_in s addresses t b = typed_while (setting_in s) (typed_expr_view t) (told_stmts_in s t true addresses b)
 
 -- of a function with statements that has so many parameters
 abbrev pub function_in : CodeSetting → CodeAddresses → (params : ℕ) → (calling : Bool) → TypedCode → List Inst

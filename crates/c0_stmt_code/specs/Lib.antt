@@ -1,4 +1,5 @@
 pub mod Ahead
+pub mod Behind
 pub mod Code
 pub mod Emit
 pub mod Frames

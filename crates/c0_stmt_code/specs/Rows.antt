@@ -35,7 +35,7 @@ sign_code =
     (next (choice z (binary z Gt (var (numbered_name Local 0)) (num z 0)) (next (assign z (var (numbered_name Local 1)) (num z 1)) done)
     (next (assign z (var (numbered_name Local 1)) (num z 0)) done)) done) (var (numbered_name Local 1))
 
--- `int g(int n) { int[10] a; n = f(n); return n; }`: its frame has 14 words
+-- `int g(int n) { int[10] a; n = f(n); return n; }`: its frame has 14 words; n stands in register 20 at the call, and in register 2 behind it
 abbrev pub calling_code : List Inst
 calling_code =
     statements_function (scope_with (typed_of (local_of int 0) ∷ typed_of (local_of (array int 10) 1) ∷ []) false 14) row_links 1
@@ -52,5 +52,5 @@ pub record AreCodes : Type 0 where
   pub in_a_frame : calling_code
       ≡ Addiu 29 29 56 ∷ Sltu 1 30 29 ∷ Beq 1 0 1 ∷ J 9 ∷ Sw 31 29 65480 ∷ Sw 20 29 65492
       ∷ Addiu 2 29 65496 ∷ Sw 0 2 0 ∷ Addiu 2 2 4 ∷ Bne 2 29 65533
-      ∷ Lw 20 29 65492 ∷ Jal 7 ∷ Sw 2 29 65492
-      ∷ Lw 2 29 65492 ∷ Lw 31 29 65480 ∷ Addiu 29 29 65480 ∷ Jr 31 ∷ []
+      ∷ Jal 7 ∷ Sw 2 29 65492
+      ∷ Lw 31 29 65480 ∷ Addiu 29 29 65480 ∷ Jr 31 ∷ []

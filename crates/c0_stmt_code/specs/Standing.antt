@@ -16,8 +16,10 @@ use Rattle.c0_meaning.specs.Evaluation.{costs, values_of}
 use Rattle.c0_meaning.specs.Running.{Target, into, outward, Work, act_on, finish, again, leave, begin, Step, Go, Stop, work_step}
 use Rattle.c0_meaning.specs.TypedState.{types_of, Fits, AllFit, store_typing, IsTypedWith, AreDeclared, IsScalar}
 use Rattle.c0_typed.specs.Leaf.{calls_in}
+use Rattle.c0_expr_code.specs.Facts.{IsWithin, SureHold, facts_called as forgetting}
 use Rattle.c0_expr_code.specs.Scope.{Scope, scope_of, exit_of}
 use Rattle.c0_expr_code.specs.Bases.{Bases, words_of_all, locals_start, word_of_scalar, RegionHeld, LocalsHeld}
+use Rattle.c0_expr_code.specs.Relation.{RegistersHold}
 use Rattle.c0_stmt_code.specs.Code.{links_of}
 use Rattle.c0_stmt_code.specs.Setup.{Setup, scalar_word, HasReturned, PrimitiveIsCalled}
 use Rattle.c0_stmt_code.specs.Journey.{Led, RunStopped}
@@ -59,13 +61,16 @@ module _ (W E : Type 0) (Outer : W → Contents → Behind → Type 0) (z : Setu
   VariablesHeld objects live regs memory f frames =
       LocalsHeld (scope f) (bases objects frames) live (if (scope f).in_registers then regs else memory) (locals_start (scope f) (bases objects frames)) (types_of (scope f).env.locals) (variables_of frames)
 
-  -- a function that waits for an answer: its frame stands in memory, and begins with its return address
+  -- a function that waits for an answer: its frame stands in memory, and begins with its return address. Nothing is known of registers, and those
+  -- variables aren't null that surely aren't.
   pub record Waits (objects : List Ty) (memory : ℕ → ℕ) (a : Activation) (g : Frame) (frames : List Frame) : Type 0 where
     pub is : slice_get z.p.unit.functions g.function ≡ Some a.function
     pub in_frame : (scope a.function).in_registers ≡ false
     pub calls : calls_in a.function.body ≡ true
     pub return_at : memory (end_of frames) ≡ 4 * a.to
     pub variables : VariablesHeld objects a.live memory memory a.function (g ∷ frames)
+    pub forgotten : IsWithin a.facts (forgetting a.facts)
+    pub sure : SureHold a.facts g.variables
 
   -- the functions that wait, the newest first
   abbrev pub Waiting : List Ty → (ℕ → ℕ) → List Activation → List Frame → Type 0
@@ -74,12 +79,14 @@ module _ (W E : Type 0) (Outer : W → Contents → Behind → Type 0) (z : Setu
   Waiting objects memory activations frames = ⊥
 
   -- The function that runs: its return address stands in register 31, or in its frame's first word where its code writes that register;
-  -- register 29 is its frame's end, or that of the frame below where its variables stand in registers.
+  -- register 29 is its frame's end, or that of the frame below where its variables stand in registers. What is known of its variables holds.
   pub record FunctionRuns (objects : List Ty) (c : Contents) (a : Activation) (g : Frame) (frames : List Frame) : Type 0 where
     pub is : slice_get z.p.unit.functions g.function ≡ Some a.function
     pub return_at : (if calls_in a.function.body then c.memory (end_of frames) else c.regs 31) ≡ 4 * a.to
     pub frame_at : c.regs 29 ≡ 4 * (if (scope a.function).in_registers then end_of frames else end_of (g ∷ frames))
     pub variables : VariablesHeld objects a.live c.regs c.memory a.function (g ∷ frames)
+    pub registers : (scope a.function).in_registers ≡ false → RegistersHold (scope a.function) (bases objects (g ∷ frames)) a.facts c
+    pub sure : SureHold a.facts g.variables
 
   -- the functions that are under way
   abbrev pub UnderWay : List Ty → Contents → List Activation → List Frame → Type 0

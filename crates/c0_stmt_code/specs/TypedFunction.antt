@@ -8,9 +8,10 @@ use Rattle.c0_meaning.specs.Operators.{KernelFault}
 use Rattle.c0_typed.specs.declared.tree.LocalType.{LocalType}
 use Rattle.c0_typed.specs.Size.{typed_need}
 use Rattle.c0_typed.specs.Tree.{TExpr, TStmt, assign, call, new, choice, loop, TStmts, done, next, TBody, code, asm, TFunction}
+use Rattle.c0_expr_code.specs.Facts.{start_facts}
 use Rattle.c0_expr_code.specs.FrameSetting.{FrameSetting}
 use Rattle.c0_stmt_code.specs.Code.{Links, asm_function, entry_code, exit_code}
-use Rattle.c0_stmt_code.specs.TypedCode.{typed_stmts_code, typed_value}
+use Rattle.c0_stmt_code.specs.TypedCode.{setting_behind_all, typed_stmts_code, typed_value}
 use Rattle.c0_stmt_code.specs.TypedLive.{typed_cleared}
 
 -- the words of locals
@@ -25,16 +26,16 @@ typed_return st calling answer = typed_value st answer ANSWER EXPRESSIONS ++ exi
 abbrev pub typed_statements : FrameSetting → Links → (params : ℕ) → (calling : Bool) → List LocalType → TStmts → TExpr → List Inst
 typed_statements st x params calling locals stmts answer =
     entry_code st (typed_cleared locals stmts answer) params (length locals) (words_of_locals locals) calling ++
-    (typed_stmts_code st x stmts ++ typed_return st calling answer)
+    (typed_stmts_code st x stmts ++ typed_return (setting_behind_all st stmts) calling answer)
 
 -- a body's code
 abbrev pub typed_body_code : FrameSetting → Links → (params : ℕ) → (calling : Bool) → TBody → List Inst
 typed_body_code st x params calling (code locals stmts answer) = typed_statements st x params calling locals stmts answer
 typed_body_code st x params calling (asm words) = asm_function st params words
 
--- the setting of a function whose faults leave to these words
+-- the setting at the begin of a function whose faults leave to these words
 abbrev pub function_setting : (KernelFault → ℕ) → TFunction → FrameSetting
-function_setting exit f = record { in_registers = f.in_registers; frame = f.frame; exit = exit }
+function_setting exit f = record { in_registers = f.in_registers; frame = f.frame; exit = exit; facts = start_facts f.in_registers f.params }
 
 -- a function's code, where its faults leave to these words
 abbrev pub typed_function_code : (KernelFault → ℕ) → Links → TFunction → List Inst

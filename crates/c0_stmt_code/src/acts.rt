@@ -7,6 +7,7 @@ ghost use Rattle.c0_typed.specs.Size.{typed_need};
 ghost use Rattle.c0_typed.specs.View.{typed_expr_view};
 ghost use Rattle.c0_expr_code.specs.Code.{access_code};
 ghost use Rattle.c0_expr_code.specs.Emit.{Appends, access_inst};
+ghost use Rattle.c0_expr_code.specs.Facts as spec;
 ghost use Rattle.c0_expr_code.specs.SettingIn.{node_in, setting_in};
 ghost use Rattle.c0_expr_code.specs.declared.address.Access.TheVariants.{Store};
 ghost use Rattle.c0_stmt_code.specs.Code.{callee_index, links_of};
@@ -15,8 +16,8 @@ ghost use Rattle.c0_stmt_code.specs.TypedCode.{typed_answer, typed_args, typed_a
 
 use crate::prologue::register_behind;
 use c0_expr_code::{
-    Access, CodeSetting, emit, emit_access, emit_constant, emit_operand, emit_place, emit_value,
-    register_standing,
+    Access, CodeSetting, Facts, emit, emit_access, emit_constant, emit_operand, emit_place,
+    emit_value, register_place,
 };
 use c0_tree::Kind;
 use c0_typed::TypedExpr;
@@ -75,7 +76,7 @@ fn emit_answer(
     requires { typed_need (typed_expr_view place.now) ≤ 12 }
     ensures { Appends code.old.items code.new.items (typed_answer (setting_in setting.now) (typed_expr_view place.now)) result }
 {
-    if let Some(target) = register_standing(setting, place) {
+    if let Some(target) = register_place(setting, place) {
         return emit(
             code,
             Inst::Addu {
@@ -99,11 +100,22 @@ pub fn emit_assign(
     requires place { typed_need (typed_expr_view place.now) ≤ 11 }
     ensures { Appends code.old.items code.new.items (typed_assign (setting_in setting.now) (typed_expr_view place.now) (typed_expr_view value.now)) result }
 {
-    if let Some(target) = register_standing(setting, place) {
+    if let Some(target) = register_place(setting, place) {
         return emit_value(setting, value, target, EXPRESSIONS, code);
     }
     let register = emit_operand(setting, value, EXPRESSIONS, code)?;
     emit_stored(setting, register, EXPRESSIONS + 1, place, code)
+}
+
+// Once the argument of a number went to its register.
+fn overwritten(facts: Facts, i: usize) -> Facts
+    ensures { result ≡ spec.overwritten facts i }
+{
+    if i < 8 {
+        facts.overwritten(i as u32)
+    } else {
+        facts
+    }
 }
 
 // Appends the code that takes arguments to their registers.
@@ -115,9 +127,11 @@ fn emit_args(
     requires { All (λ x. typed_need (typed_expr_view x) ≤ 12) args.now }
     ensures { Appends code.old.items code.new.items (typed_args (setting_in setting.now) (map typed_expr_view args.now) 0) result }
 {
+    let mut here = *setting;
     for (i, arg) in args.iter().enumerate() {
         let register = register_behind(0, i as u64);
-        emit_value(setting, arg, register, EXPRESSIONS, code)?;
+        emit_value(&here, arg, register, EXPRESSIONS, code)?;
+        here = here.with(overwritten(here.facts, i));
     }
     Ok(())
 }
@@ -144,7 +158,8 @@ pub fn emit_call(
             index: index_of(addresses, kind, number),
         },
     )?;
-    emit_answer(setting, place, code)
+    let behind = setting.with(setting.facts.called());
+    emit_answer(&behind, place, code)
 }
 
 /// Appends the code of `new` of so many words, whose object's address goes to a place.
@@ -166,5 +181,6 @@ pub fn emit_new(
             index: addresses.new_object / 4,
         },
     )?;
-    emit_answer(setting, place, code)
+    let behind = setting.with(setting.facts.renewed());
+    emit_answer(&behind, place, code)
 }

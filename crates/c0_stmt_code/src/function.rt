@@ -11,10 +11,11 @@ ghost use Rattle.c0_stmt_code.specs.Code.{asm_function};
 ghost use Rattle.c0_stmt_code.specs.Emit.{body_in, function_in, typed_function_at};
 ghost use Rattle.c0_stmt_code.specs.TypedFunction.{CanEmit, CanEmitBody, FitRegisters, HasFrame, typed_return};
 
+use crate::behind::behind_all;
 use crate::prologue::{emit_entry, emit_exit, emit_stack_test};
 use crate::statement::emit_statements;
 use c0_asm_body::{emit_arguments, emit_asm};
-use c0_expr_code::{CodeSetting, emit, emit_value};
+use c0_expr_code::{CodeSetting, Facts, emit, emit_value};
 use c0_typed::{TypedBody, TypedCode, TypedExpr, TypedFunction};
 use masm::registers::{ANSWER, CodeAddresses, EXPRESSIONS, RETURN, SCRATCH};
 use mips_table::Inst;
@@ -52,7 +53,8 @@ fn emit_code(
 {
     emit_entry(setting, params, body, calling, code)?;
     emit_statements(alloc, setting, addresses, &body.stmts, code)?;
-    emit_return(setting, calling, &body.answer, code)
+    let facts = behind_all(setting.in_registers, &body.stmts, setting.facts);
+    emit_return(&setting.with(facts), calling, &body.answer, code)
 }
 
 // Appends the code of a function with an asm body.
@@ -106,7 +108,8 @@ fn emit_whole(
     requires function { CanEmit (typed_function_view function.now) }
     ensures { Appends code.old.items code.new.items (typed_function_at addresses.now (typed_function_view function.now)) result }
 {
-    let setting = CodeSetting::new(function.in_registers, function.frame, addresses);
+    let facts = Facts::at_start(function.in_registers, function.params);
+    let setting = CodeSetting::new(function.in_registers, function.frame, addresses, facts);
     emit_body(
         alloc,
         &setting,

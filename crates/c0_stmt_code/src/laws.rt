@@ -8,8 +8,8 @@ ghost use Rattle.mips_table.specs.Code.{Contents, Behind, World, Sound};
 
 use c0_asm_body::laws::asm_bodies_run;
 use c0_expr_code::laws::{
-    areas_hold, codes_are_short, expressions_run, held_stays, names_are_enough, parts_fit,
-    tests_run,
+    areas_hold, codes_are_short, expressions_run, facts_grow, facts_stay, held_stays,
+    names_are_enough, parts_fit, tests_run,
 };
 use c0_meaning::laws::{numbers_tell, units_are_typed_or_faulty};
 use c0_meaning::run_laws::{declared_types_have_words, zeros_fit_their_types};
@@ -35,6 +35,8 @@ pub fn steps_run<M: Surroundings>()
 {
     expressions_run();
     tests_run();
+    facts_grow();
+    facts_stay();
     names_are_enough();
     areas_hold();
     codes_are_short();

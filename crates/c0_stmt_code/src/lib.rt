@@ -2,6 +2,7 @@
 #![tactic(auto)]
 
 mod acts;
+mod behind;
 mod emit_laws;
 mod function;
 pub mod laws;

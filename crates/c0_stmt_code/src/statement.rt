@@ -12,6 +12,7 @@ ghost use Rattle.c0_stmt_code.specs.TypedCode.{typed_otherwise_at, typed_stmt_co
 ghost use Rattle.c0_stmt_code.specs.TypedFunction.{FitRegisters, FitsRegisters};
 
 use crate::acts::{emit_assign, emit_call, emit_new};
+use crate::behind::{all_changed, behind};
 use c0_expr_code::node_laws::node_patches_aim;
 use c0_expr_code::{CodeSetting, emit, emit_test, patch, patch_all};
 use c0_typed::{TypedExpr, TypedStmt};
@@ -42,7 +43,10 @@ fn emit_statement(
         } => emit_call(setting, addresses, *kind, *number, args, place, code),
         TypedStmt::New { words, place } => emit_new(setting, addresses, *words, place, code),
         TypedStmt::If { test, yes, no } => emit_if(alloc, setting, addresses, test, yes, no, code),
-        TypedStmt::While { test, body } => emit_while(alloc, setting, addresses, test, body, code),
+        TypedStmt::While { test, body } => {
+            let turning = setting.with(all_changed(body, setting.facts));
+            emit_while(alloc, &turning, addresses, test, body, code)
+        }
     }
 }
 
@@ -59,8 +63,10 @@ pub fn emit_statements(
     requires stmts { FitRegisters (typed_stmts_view stmts.now) }
     ensures { Appends code.old.items code.new.items (typed_stmts_in setting.now addresses.now stmts.now) result }
 {
+    let mut here = *setting;
     for stmt in stmts {
-        emit_statement(alloc, setting, addresses, stmt, code)?;
+        emit_statement(alloc, &here, addresses, stmt, code)?;
+        here = here.with(behind(here.in_registers, stmt, here.facts));
     }
     Ok(())
 }
@@ -140,15 +146,16 @@ fn emit_if(
     node_patches_aim();
     let mut jumps = Vec::new(alloc);
     emit_test(alloc, setting, test, false, EXPRESSIONS, code, &mut jumps)?;
-    emit_statements(alloc, setting, addresses, yes, code)?;
+    emit_statements(alloc, &setting.told(test, true), addresses, yes, code)?;
     let end = code.len();
-    emit_otherwise(alloc, setting, addresses, no, code)?;
+    emit_otherwise(alloc, &setting.told(test, false), addresses, no, code)?;
     let to = behind_jump(no, end);
     patch_all(code, &jumps, to);
     Ok(())
 }
 
-// Appends the code of a loop: the test stands behind the body, and goes back to it, or to the jump before it where there is no body.
+// Appends the code of a loop, in the setting of its test, which stands behind the body, and goes back to it, or to the jump before it where
+// there is no body.
 #[cycle(statement)]
 fn emit_while(
     alloc: Global,
@@ -165,7 +172,7 @@ fn emit_while(
 {
     node_patches_aim();
     let start = code.len();
-    emit_skipped(alloc, setting, addresses, body, code)?;
+    emit_skipped(alloc, &setting.told(test, true), addresses, body, code)?;
     let end = code.len();
     let mut jumps = Vec::new(alloc);
     emit_test(alloc, setting, test, true, EXPRESSIONS, code, &mut jumps)?;

@@ -63,7 +63,7 @@ type_bare env (address s e) = ap₂ (λ (b : Bool) (t : Option Ty). if b then op
 type_bare env (unary s o e) = refl
 type_bare env (binary s o a b) = refl
 
-expr_bare : (env : Env) (e : CExpr) → typed_of_expr env (bare_expr e) ≡ typed_of_expr env e
+pub expr_bare : (env : Env) (e : CExpr) → typed_of_expr env (bare_expr e) ≡ typed_of_expr env e
 expr_bare env (num s n) = refl
 expr_bare env (true_ s) = refl
 expr_bare env (false_ s) = refl
@@ -90,14 +90,14 @@ ty_bare (tree.named x) = refl
 ty_bare (tree.array t n) = ap (λ (t : Ty). types.array t n) (ty_bare t)
 
 mutual
-  stmt_bare : (env : Env) (s : CStmt) → typed_of_stmt env (bare_stmt s) ≡ typed_of_stmt env s
+  pub stmt_bare : (env : Env) (s : CStmt) → typed_of_stmt env (bare_stmt s) ≡ typed_of_stmt env s
   stmt_bare env (assign s p v) = ap₂ (λ (x y : TExpr). typed.assign x y) (expr_bare env p) (expr_bare env v)
   stmt_bare env (call s p cs f args) = ap₂ (λ (xs : List TExpr) (x : TExpr). typed.call f.kind f.number xs x) (exprs_bare env args) (expr_bare env p)
   stmt_bare env (new s p t ts) = ap₂ (λ (u : Ty) (x : TExpr). typed.new (words env.structs u) x) (ty_bare t) (expr_bare env p)
   stmt_bare env (choice s t a b) = λ j. typed.choice (expr_bare env t j) (stmts_bare env a j) (stmts_bare env b j)
   stmt_bare env (loop s t b) = ap₂ (λ (x : TExpr) (y : TStmts). typed.loop x y) (expr_bare env t) (stmts_bare env b)
 
-  stmts_bare : (env : Env) (ss : CStmts) → typed_of_stmts env (bare_stmts ss) ≡ typed_of_stmts env ss
+  pub stmts_bare : (env : Env) (ss : CStmts) → typed_of_stmts env (bare_stmts ss) ≡ typed_of_stmts env ss
   stmts_bare env done = refl
   stmts_bare env (next s rest) = ap₂ (λ (x : TStmt) (y : TStmts). typed.next x y) (stmt_bare env s) (stmts_bare env rest)
 

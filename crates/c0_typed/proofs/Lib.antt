@@ -3,5 +3,5 @@ mod TreesOfLists
 mod OneFunctionMore
 mod SizedBodies
 mod NumbersAreOfValues
-mod BareTrees
+pub mod BareTrees
 mod NeedsAreFew

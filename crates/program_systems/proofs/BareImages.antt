@@ -22,13 +22,18 @@ use Rattle.c0_meaning.specs.Bare.{bare_ty, bare_expr, bare_stmt, bare_stmts, bar
 use Rattle.c0_runtime.specs.declared.entry.TheConstants.{ENTRY_WORDS}
 use Rattle.c0_runtime.specs.declared.runtime.TheConstants.{RUNTIME_WORDS}
 use Rattle.c0_runtime.specs.Code as runtime
+use Rattle.c0_typed.proofs.BareTrees.{expr_bare, stmt_bare as tree_bare, stmts_bare as trees_bare}
+use Rattle.c0_typed.specs.Typed.{typed_of_expr}
 use Rattle.c0_typed.specs.Leaf.{MAX_REGISTER_VARIABLES, are_calling, are_free_of_calls, is_calling, is_free_of_calls, is_leaf, keeps_registers}
 use Rattle.c0_expr_code.specs.Scope.{Scope, exit_number}
 use Rattle.c0_expr_code.specs.FrameSetting.{frame_setting}
-use Rattle.c0_expr_code.specs.Code.{field_made, index_made, target_address, at_place, only_value, access_code, unary_made, binary_made, made, constant_code, register_of_variable}
+use Rattle.c0_expr_code.specs.declared.facts.Facts.{Facts}
+use Rattle.c0_expr_code.specs.Facts.{facts_called, is_sure_pointer, overwritten, renewed, facts_told}
+use Rattle.c0_expr_code.specs.Code.{field_made, index_made, target_address, at_place, only_value, access_code, unary_made, binary_made, made, constant_code, register_of_variable, right_facts}
 use Rattle.c0_expr_code.specs.Reads.{reads, reads_to_find}
 use Rattle.c0_expr_code.specs.Test.{plain_test, unary_test, binary_test, test_code}
-use Rattle.c0_stmt_code.specs.Code.{Links, callee_index, skip, stored_code, assigned_code, args_code, otherwise, otherwise_at, stmt_code, stmts_code, entry_code, exit_code, body_code, function_code}
+use Rattle.c0_stmt_code.specs.Code.{Links, callee_index, skip, stored_code, assigned_code, args_code, otherwise, otherwise_at, stmt_code, stmts_code, behind_stmt, behind_stmts, told_facts, turn_facts, first_facts, entry_code, exit_code, body_code, function_code}
+use Rattle.c0_stmt_code.specs.Behind.{all_changed, behind, behind_all}
 use Rattle.c0_stmt_code.specs.Live.{any_reads, is_variable, live_at_place, is_live, are_live, are_scalar, is_cleared}
 use Rattle.c0_unit.specs.Code.{fault_exits, scope, links, no_links, unit_links, functions_code, words_of_functions, ordered_code, starts_from, function_starts, functions_at, code_words, routines_code, unit_code, program_words}
 use Rattle.c0_types.specs.Front.{IsUnitAs}
@@ -97,25 +102,34 @@ type_bare env (deref s e) = ap target (type_bare env e)
 type_bare env (address s e) = λ i. if is_place_bare e i then option_map types.pointer (type_bare env e i) else None
 type_bare env _ = refl
 
-made_bare : (sc : Scope) (e : CExpr) → made sc (bare_expr e) ≡ made sc e
-made_bare sc (field s e f) = λ j. field_made sc (type_bare sc.env e j) (made_bare sc e j).place f.number
-made_bare sc (arrow s e f) = λ j. field_made sc (target (type_bare sc.env e j)) (λ r. target_address sc (made_bare sc e j) r) f.number
-made_bare sc (index s e i) = λ j. index_made sc (type_bare sc.env e j) (made_bare sc e j).place (made_bare sc i j)
-made_bare sc (deref s e) = λ j. at_place (λ r. target_address sc (made_bare sc e j) r)
-made_bare sc (address s e) = λ j. only_value (λ d r. access_code (λ b k. Addiu d b k) r ((made_bare sc e j).place r))
-made_bare sc (unary s o e) = λ j. unary_made o (made_bare sc e j)
-made_bare sc (binary s o a b) = λ j. binary_made sc o (made_bare sc a j) (made_bare sc b j)
-made_bare sc _ = refl
+made_bare : (sc : Scope) (fs : Facts) (e : CExpr) → made sc fs (bare_expr e) ≡ made sc fs e
+made_bare sc fs (field s e f) = λ j. field_made sc (type_bare sc.env e j) (made_bare sc fs e j).place f.number
+made_bare sc fs (arrow s e f) =
+    λ j. field_made sc (target (type_bare sc.env e j)) (λ r. target_address sc (is_sure_pointer fs (expr_bare sc.env e j)) (made_bare sc fs e j) r) f.number
+made_bare sc fs (index s e i) = λ j. index_made sc (type_bare sc.env e j) (made_bare sc fs e j).place (made_bare sc fs i j)
+made_bare sc fs (deref s e) = λ j. at_place (λ r. target_address sc (is_sure_pointer fs (expr_bare sc.env e j)) (made_bare sc fs e j) r)
+made_bare sc fs (address s e) = λ j. only_value (λ d r. access_code (λ b k. Addiu d b k) r ((made_bare sc fs e j).place r))
+made_bare sc fs (unary s o e) = λ j. unary_made o (made_bare sc fs e j)
+made_bare sc fs (binary s o a b) =
+    let right : made sc (right_facts o (typed_of_expr sc.env (bare_expr a)) fs) (bare_expr b) ≡ made sc (right_facts o (typed_of_expr sc.env a) fs) b =
+    (λ i. made sc (right_facts o (expr_bare sc.env a i) fs) (bare_expr b)) ∙ made_bare sc (right_facts o (typed_of_expr sc.env a) fs) b in
+    λ j. binary_made sc o (made_bare sc fs a j) (right j)
+made_bare sc fs _ = refl
 
-test_bare : (sc : Scope) (e : CExpr) (s : Bool) (far r : ℕ) → test_code sc (bare_expr e) s far r ≡ test_code sc e s far r
-test_bare sc (unary p o e) s far r = λ j. unary_test o (made_bare sc (unary p o e) j) (λ t far r. test_bare sc e t far r j) s far r
-test_bare sc (binary p o a b) s far r =
-    λ j. binary_test o (made_bare sc (binary p o a b) j) (made_bare sc a j) (made_bare sc b j) (λ t far r. test_bare sc a t far r j) (λ t far r. test_bare sc b t far r j) s far r
-test_bare sc e s far r = λ j. plain_test (made_bare sc e j) s far r
+test_bare : (sc : Scope) (fs : Facts) (e : CExpr) (s : Bool) (far r : ℕ) → test_code sc fs (bare_expr e) s far r ≡ test_code sc fs e s far r
+test_bare sc fs (unary p o e) s far r = λ j. unary_test o (made_bare sc fs (unary p o e) j) (λ t far r. test_bare sc fs e t far r j) s far r
+test_bare sc fs (binary p o a b) s far r =
+    let facts = right_facts o (typed_of_expr sc.env a) fs in
+    let right : made sc (right_facts o (typed_of_expr sc.env (bare_expr a)) fs) (bare_expr b) ≡ made sc facts b =
+    (λ i. made sc (right_facts o (expr_bare sc.env a i) fs) (bare_expr b)) ∙ made_bare sc facts b in
+    let tests : (t : Bool) (far r : ℕ) → test_code sc (right_facts o (typed_of_expr sc.env (bare_expr a)) fs) (bare_expr b) t far r ≡ test_code sc facts b t far r =
+    λ t far r. (λ i. test_code sc (right_facts o (expr_bare sc.env a i) fs) (bare_expr b) t far r) ∙ test_bare sc facts b t far r in
+    λ j. binary_test o (made_bare sc fs (binary p o a b) j) (made_bare sc fs a j) (right j) (λ t far r. test_bare sc fs a t far r j) (λ t far r. tests t far r j) s far r
+test_bare sc fs e s far r = λ j. plain_test (made_bare sc fs e j) s far r
 
-args_bare : (sc : Scope) (es : List CExpr) (n : ℕ) → args_code sc (map bare_expr es) n ≡ args_code sc es n
-args_bare sc [] n = refl
-args_bare sc (e ∷ es) n = λ j. (made_bare sc e j).value (register_of_variable n) EXPRESSIONS ++ args_bare sc es (suc n) j
+args_bare : (sc : Scope) (fs : Facts) (es : List CExpr) (n : ℕ) → args_code sc fs (map bare_expr es) n ≡ args_code sc fs es n
+args_bare sc fs [] n = refl
+args_bare sc fs (e ∷ es) n = λ j. (made_bare sc fs e j).value (register_of_variable n) EXPRESSIONS ++ args_bare sc (overwritten fs n) es (suc n) j
 
 -- STATEMENTS
 otherwise_bare : (b : CStmts) (is : List Inst) → otherwise (bare_stmts b) is ≡ otherwise b is
@@ -127,20 +141,32 @@ otherwise_at_bare done = refl
 otherwise_at_bare (next s rest) = refl
 
 mutual
-  stmt_bare : (sc : Scope) (x : Links) (s : CStmt) → stmt_code sc x (bare_stmt s) ≡ stmt_code sc x s
-  stmt_bare sc x (assign s p v) = λ j. assigned_code (made_bare sc p j).stands (made_bare sc p j) (made_bare sc v j)
-  stmt_bare sc x (call s p cs f args) =
-      λ j. args_bare sc args 0 j ++ (Jal (callee_index x f.kind f.number) ∷ stored_code ANSWER EXPRESSIONS (made_bare sc p j).stands (made_bare sc p j).place)
-  stmt_bare sc x (new s p t ts) =
-      λ j. constant_code ANSWER (words sc.env.structs (ty_bare t j) % 2 ^ 32) ++ (Jal x.new_object ∷ stored_code ANSWER EXPRESSIONS (made_bare sc p j).stands (made_bare sc p j).place)
-  stmt_bare sc x (choice s t a b) =
-      λ j. test_bare sc t false ((length (stmts_bare sc x a j) + otherwise_at_bare b j) % 2 ^ 16) EXPRESSIONS j ++ (stmts_bare sc x a j ++ otherwise_bare b (stmts_bare sc x b j) j)
-  stmt_bare sc x (loop s t b) = λ j. skip (length (stmts_bare sc x b j))
-      ∷ (stmts_bare sc x b j ++ test_bare sc t true ((2 ^ 16 - (max (length (stmts_bare sc x b j)) 1 + length (test_bare sc t true 0 EXPRESSIONS j)) % 2 ^ 16) % 2 ^ 16) EXPRESSIONS j)
+  stmt_bare : (sc : Scope) (fs : Facts) (x : Links) (s : CStmt) → stmt_code sc fs x (bare_stmt s) ≡ stmt_code sc fs x s
+  stmt_bare sc fs x (assign s p v) = λ j. assigned_code (made_bare sc fs p j).register (made_bare sc fs p j) (made_bare sc fs v j)
+  stmt_bare sc fs x (call s p cs f args) = λ j. args_bare sc fs args 0 j
+      ++ (Jal (callee_index x f.kind f.number) ∷ stored_code ANSWER EXPRESSIONS (made_bare sc (facts_called fs) p j).register (made_bare sc (facts_called fs) p j).place)
+  stmt_bare sc fs x (new s p t ts) = λ j. constant_code ANSWER (words sc.env.structs (ty_bare t j) % 2 ^ 32)
+      ++ (Jal x.new_object ∷ stored_code ANSWER EXPRESSIONS (made_bare sc (renewed fs) p j).register (made_bare sc (renewed fs) p j).place)
+  stmt_bare sc fs x (choice s t a b) =
+      let yes : stmts_code sc (told_facts sc fs (bare_expr t) true) x (bare_stmts a) ≡ stmts_code sc (told_facts sc fs t true) x a =
+      (λ i. stmts_code sc (facts_told (expr_bare sc.env t i) true fs) x (bare_stmts a)) ∙ stmts_bare sc (told_facts sc fs t true) x a in
+      let no : stmts_code sc (told_facts sc fs (bare_expr t) false) x (bare_stmts b) ≡ stmts_code sc (told_facts sc fs t false) x b =
+      (λ i. stmts_code sc (facts_told (expr_bare sc.env t i) false fs) x (bare_stmts b)) ∙ stmts_bare sc (told_facts sc fs t false) x b in
+      λ j. test_bare sc fs t false ((length (yes j) + otherwise_at_bare b j) % 2 ^ 16) EXPRESSIONS j ++ (yes j ++ otherwise_bare b (no j) j)
+  stmt_bare sc fs x (loop s t b) =
+      let first = turn_facts sc fs b in
+      let body : stmts_code sc (told_facts sc (turn_facts sc fs (bare_stmts b)) (bare_expr t) true) x (bare_stmts b) ≡ stmts_code sc (told_facts sc first t true) x b =
+      (λ i. stmts_code sc (facts_told (expr_bare sc.env t i) true (all_changed (trees_bare sc.env b i) fs)) x (bare_stmts b)) ∙ stmts_bare sc (told_facts sc first t true) x b in
+      let tests : (far r : ℕ) → test_code sc (turn_facts sc fs (bare_stmts b)) (bare_expr t) true far r ≡ test_code sc first t true far r =
+      λ far r. (λ i. test_code sc (all_changed (trees_bare sc.env b i) fs) (bare_expr t) true far r) ∙ test_bare sc first t true far r in
+      λ j. skip (length (body j)) ∷ (body j ++ tests ((2 ^ 16 - (max (length (body j)) 1 + length (tests 0 EXPRESSIONS j)) % 2 ^ 16) % 2 ^ 16) EXPRESSIONS j)
 
-  stmts_bare : (sc : Scope) (x : Links) (ss : CStmts) → stmts_code sc x (bare_stmts ss) ≡ stmts_code sc x ss
-  stmts_bare sc x done = refl
-  stmts_bare sc x (next s rest) = λ j. stmt_bare sc x s j ++ stmts_bare sc x rest j
+  stmts_bare : (sc : Scope) (fs : Facts) (x : Links) (ss : CStmts) → stmts_code sc fs x (bare_stmts ss) ≡ stmts_code sc fs x ss
+  stmts_bare sc fs x done = refl
+  stmts_bare sc fs x (next s rest) =
+      let more : stmts_code sc (behind_stmt sc fs (bare_stmt s)) x (bare_stmts rest) ≡ stmts_code sc (behind_stmt sc fs s) x rest =
+      (λ i. stmts_code sc (behind sc.in_registers (tree_bare sc.env s i) fs) x (bare_stmts rest)) ∙ stmts_bare sc (behind_stmt sc fs s) x rest in
+      λ j. stmt_bare sc fs x s j ++ more j
 
 mutual
   calling_bare : (s : CStmt) → is_calling (bare_stmt s) ≡ is_calling s
@@ -229,8 +255,12 @@ scope_bare u f = λ j. record {
 
 body_bare : (sc : Scope) (x : Links) (n : ℕ) (b : CBody) → body_code sc x n (bare_body b) ≡ body_code sc x n b
 body_bare sc x n (code locals stmts answer) =
-    λ j. entry_code (frame_setting sc) (cleared_bare locals stmts answer j) n (count_bare locals j) (all_words sc.env.structs (typeds_bare locals j)) (callings_bare stmts j)
-    ++ (stmts_bare sc x stmts j ++ ((made_bare sc answer j).value ANSWER EXPRESSIONS ++ exit_code (frame_setting sc) (callings_bare stmts j)))
+    let first = first_facts sc n in
+    let answered : made sc (behind_stmts sc first (bare_stmts stmts)) (bare_expr answer) ≡ made sc (behind_stmts sc first stmts) answer =
+    (λ i. made sc (behind_all sc.in_registers (trees_bare sc.env stmts i) first) (bare_expr answer)) ∙ made_bare sc (behind_stmts sc first stmts) answer in
+    λ j. entry_code (frame_setting sc first) (cleared_bare locals stmts answer j) n (count_bare locals j) (all_words sc.env.structs (typeds_bare locals j)) (callings_bare stmts j)
+    ++ (stmts_bare sc first x stmts j
+    ++ ((answered j).value ANSWER EXPRESSIONS ++ exit_code (frame_setting sc (behind_all sc.in_registers (trees_bare sc.env stmts j) first)) (callings_bare stmts j)))
 body_bare sc x n (asm text span words) = refl
 
 function_bare : (u : CUnit) (x : Links) (f : CFunction) → function_code (scope (bare u) (bare_function f)) x (bare_function f) ≡ function_code (scope u f) x f

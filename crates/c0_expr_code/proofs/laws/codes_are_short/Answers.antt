@@ -7,11 +7,11 @@ use Rattle.c0_expr_code.proofs.laws.codes_are_short.Goals as goal
 
 pub returns : goal.returns
 returns c = record {
-  value = λ sc e d r. (short sc e).value d r;
-  operand = λ sc e r. operand_length (made sc e) (nodes e) r (short sc e);
-  place = λ sc e r. (short sc e).place r;
-  test = λ sc e s far r. test_length sc e s far r;
-  some = λ sc e d r. value_some sc e d r;
-  test_some = λ sc e s far r. test_some sc e s far r;
-  same = λ sc e s far other r. test_same sc e s far other r;
+  value = λ sc fs e d r. (short sc fs e).value d r;
+  operand = λ sc fs e r. operand_length (made sc fs e) (nodes e) r (short sc fs e);
+  place = λ sc fs e r. (short sc fs e).place r;
+  test = λ sc fs e s far r. test_length sc fs e s far r;
+  some = λ sc fs e d r free. value_some sc fs e d r free;
+  test_some = λ sc fs e s far r. test_some sc fs e s far r;
+  same = λ sc fs e s far other r. test_same sc fs e s far other r;
 }

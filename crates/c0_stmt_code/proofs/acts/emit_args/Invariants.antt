@@ -8,4 +8,4 @@ use Rattle.c0_stmt_code.proofs.acts.emit_args.Given as goal
 
 abbrev pub invariant-loop-i : goal.invariant-loop-i
 invariant-loop-i l =
-    l.code.items ++ map encoding (typed_args (setting_in l.setting) (map typed_expr_view (drop l.i l.args)) l.i) ≡ l.initial.code.items ++ map encoding (typed_args (setting_in l.setting) (map typed_expr_view l.args) 0)
+    l.code.items ++ map encoding (typed_args (setting_in l.here) (map typed_expr_view (drop l.i l.args)) l.i) ≡ l.initial.code.items ++ map encoding (typed_args (setting_in l.setting) (map typed_expr_view l.args) 0)

@@ -30,7 +30,7 @@ decreases-emit_while l = 8 * stmts_count (typed_stmts_view l.body.now) + 4
 
 abbrev pub invariant-emit_statements-loop-stmt : goal.invariant-emit_statements-loop-stmt
 invariant-emit_statements-loop-stmt l = record {
-  appended : l.code.items ++ map encoding (typed_stmts_code (setting_in l.setting) (links_of l.addresses) (typed_stmts_view (drop l.stmt-index l.stmts)))
+  appended : l.code.items ++ map encoding (typed_stmts_code (setting_in l.here) (links_of l.addresses) (typed_stmts_view (drop l.stmt-index l.stmts)))
       ≡ l.initial.code.items ++ map encoding (typed_stmts_code (setting_in l.setting) (links_of l.addresses) (typed_stmts_view l.stmts));
   fit : FitRegisters (typed_stmts_view (drop l.stmt-index l.stmts));
   count : stmts_count (typed_stmts_view (drop l.stmt-index l.stmts)) ≤ stmts_count (typed_stmts_view l.stmts);
