@@ -5,7 +5,7 @@ import sys
 from oracle.c0.tokens import NoTree
 
 MODULES = {'c0': 'oracle.c0.said', 'c0_checks': 'oracle.c0.checks', 'c0_stack': 'oracle.c0.stack', 'c0_words': 'oracle.c0.code', 'c0_code': 'oracle.c0.emit',
-           'c0_compared': 'oracle.c0.compared',
+           'c0_compared': 'oracle.c0.compared', 'c0_ran': 'oracle.c0.ran',
            'systems': 'oracle.systems', 'boot': 'oracle.run', 'programs': 'oracle.programs', 'saved': 'oracle.saved',
            'fault': 'oracle.layer.fault', 'frames': 'oracle.layer.frames', 'paging': 'oracle.layer.paging', 'rom': 'oracle.layer.rom'}
 WRITERS = ('bounds', 'checks', 'examples', 'exercises', 'lines', 'programs', 'roms', 'rows', 'saved_runs', 'saves', 'systems', 'traces', 'unix')

@@ -1,4 +1,4 @@
-"""Whether a built program compiles as the model does, word by word: the kernels of bench/code, examples, exercises and code_cases, and their programs.
+"""Whether a built program compiles as the model does, word by word: kernels and programs of bench/code, examples, exercises, code_cases, and random ones.
 
 usage: oracle/model c0_compared CVM    says how many sources have the same words, and which not
 """
@@ -9,6 +9,7 @@ import tempfile
 
 from oracle import cases
 from oracle.c0.emit import Code, image
+from oracle.c0.random_kernels import Maker
 from oracle.run import is_program
 from oracle.words import of_bytes
 
@@ -26,6 +27,8 @@ def sources():
     for file in sorted(os.listdir(folder)):
         for head, source in cases.of_file(os.path.join(folder, file)):
             yield '%s: %s' % (file, head), cases.unescaped(source)
+    for seed in range(200):
+        yield 'random %d' % seed, Maker(seed).text()
 
 
 def compiled(cvm, text, room):

@@ -3,7 +3,7 @@ became. They are those that `emit` makes, after docs/COMPILER.md; `unfit` compar
 from collections import namedtuple
 
 from oracle.assembler import assemble
-from oracle.c0.emit import ANSWER, EXITS, EXPRESSIONS, FRAME_END, PRIMITIVES, ROUTINES, SCRATCH, START, Code
+from oracle.c0.emit import EXITS, FRAME_END, PRIMITIVES, ROUTINES, SCRATCH, START, Code
 
 EXIT_NAMES = ('fault NullUse', 'fault Bounds', 'fault DivZero', 'fault StackOut', 'the end')
 RETURN, STACK_OUT = 0x03e00008, 2 << 26 | 0x2034 >> 2
@@ -43,26 +43,28 @@ class Cut(Code):
             return self.add(1, 'end of %s' % f.name, f.asm[1][1] - 1)
         self.add(len(self.enter(f)), 'head of %s' % f.name, head)
         self.tests[f.name] = len(self.tested(SCRATCH if self.in_registers else FRAME_END))
-        self.cut_block(f.body)
-        self.add(len(self.node(f.result).value(ANSWER, EXPRESSIONS)), 'return', f.return_at)
+        facts = self.begins(f)
+        self.cut_block(f.body, facts)
+        self.add(len(self.result(f, self.behind_all(f.body, facts))), 'return', f.return_at)
         return self.add(len(self.end()), 'end of %s' % f.name, f.return_at)
 
-    def cut_block(self, statements):
-        for s in statements:
+    def cut_block(self, statements, facts):
+        for s, known in self.each(statements, facts):
             if s.kind not in ('if', 'while'):
-                self.add(len(self.statement(s)), s.kind, s.span[0], s)
+                self.add(len(self.statement(s, known)), s.kind, s.span[0], s)
                 continue
             test, yes, no = s.parts
             if s.kind == 'while':
+                known = self.turning(s, known)
                 self.add(1, 'to the test', s.span[0], s)
-                self.cut_block(yes)
-                self.add(len(self.test(test, True, 0)), 'test', s.span[0], s)
+                self.cut_block(yes, self.told(test, True, known))
+                self.add(len(self.test(test, True, 0, known)), 'test', s.span[0], s)
             else:
-                self.add(len(self.test(test, False, 0)), 'test', s.span[0], s)
-                self.cut_block(yes)
+                self.add(len(self.test(test, False, 0, known)), 'test', s.span[0], s)
+                self.cut_block(yes, self.told(test, True, known))
                 if no:
                     self.add(1, 'over the else', s.span[0], s)
-                    self.cut_block(no)
+                    self.cut_block(no, self.told(test, False, known))
 
     # ---- whether words fit
     def unfit(self, words):

@@ -3,6 +3,7 @@
 usage: oracle/model c0_code FILE..    prints the words of each kernel
 """
 from oracle.assembler import assemble, three_registers, with_immediate
+from oracle.c0.facts import ANSWER, ARGUMENTS, Knowing, inside
 from oracle.c0.meaning import NUMBERS, Unit
 from oracle.c0.tree import Parser, bare, is_scalar
 from oracle.words import M
@@ -12,7 +13,7 @@ FAULTS = {'null': 0, 'bounds': 1, 'zero': 2, 'stack': 3}
 STACK_FIRST, STACK_LIMIT = 0x1014, 0x1018
 LARGEST = 262144    # a frame of more words has room in no stack
 CLEARED = 8         # so many words of locals are cleared one by one
-SCRATCH, ANSWER, EXPRESSIONS, ARGUMENTS, GLOBALS, FRAME_END, STACK_END, RETURN = 1, 2, 8, 20, 28, 29, 30, 31
+SCRATCH, EXPRESSIONS, GLOBALS, FRAME_END, STACK_END, RETURN = 1, 8, 28, 29, 30, 31
 
 NEW = '''lw r3, 0x1008(r0)
 lw r4, 0x100c(r0)
@@ -126,8 +127,8 @@ class Place:
 
 
 class Value:
-    """An expression: the code of its value, by target and first free register; its place, by the latter; the register in which it stands without code; the
-    number that is written there; and the word that it is known to be."""
+    """An expression: the code of its value, by target and first free register; its place, by the latter, which a variable in a register has none of; the
+    register in which it stands without code; the number that is written there; and the word that it is known to be."""
 
     def __init__(self, ty, value, place=None, stands=None, literal=None, known=None):
         self.ty, self.value, self.place, self.stands, self.literal, self.known = ty, value, place, stands, literal, known
@@ -143,6 +144,11 @@ def fixed(ty, n, literal=None):
 
 def at(ty, place):
     return Value(ty, lambda d, r: place(r).access(load, d, r), place)
+
+
+def moved(d, q):
+    """From a register to another one."""
+    return [] if d == q else [addu(d, q, 0)]
 
 
 def of_one(a, code):
@@ -165,7 +171,7 @@ def of_two(a, b, code):
 def logic(op, a, b):
     def value(d, r):
         right = b.value(r, r)
-        return a.value(r, r) + [branch(op == '&&', r, 0, len(right))] + right + ([] if d == r else [addu(d, r, 0)])
+        return a.value(r, r) + [branch(op == '&&', r, 0, len(right))] + right + moved(d, r)
     return value
 
 
@@ -207,7 +213,7 @@ def division(op, sure):
     return lambda d, q, t: tested(t) + [three_registers(q, t, 0, 0, 0x1a), mflo(d) if op == '/' else mfhi(d)]
 
 
-class Code:
+class Code(Knowing):
     """The code of a source. A call stands as ('call', name) until addresses are known, and that of the routine `new` has the name None."""
 
     def __init__(self, text, is_program=False):
@@ -217,8 +223,8 @@ class Code:
         for ty, name in self.sizes.globals:
             self.globals.setdefault(name, ty)
 
-    # ---- expressions
-    def node(self, e):
+    # ---- expressions, where some facts are known of variables
+    def node(self, e, facts):
         kind, parts = e.kind, e.parts
         if kind == 'num':
             return fixed(('int',), parts[0], parts[0])
@@ -227,40 +233,41 @@ class Code:
         if kind == 'null':
             return fixed(('ptr', None), 0)
         if kind == 'var':
-            return self.variable(parts[0])
+            return self.variable(parts[0], facts)
         if kind in ('field', 'arrow'):
-            return self.field(kind, self.node(parts[0]), parts[1][0])
+            return self.field(self.node(parts[0], facts) if kind == 'field' else self.target(parts[0], facts), parts[1][0])
         if kind == 'index':
-            return self.indexed(self.node(parts[0]), self.node(parts[1]))
+            return self.indexed(self.node(parts[0], facts), self.node(parts[1], facts))
         if kind == 'un':
-            return self.unary(parts[0], self.node(parts[1]))
-        return self.binary(parts[0], self.node(parts[1]), self.node(parts[2]))
+            return self.target(parts[1], facts) if parts[0] == '*' else self.unary(parts[0], self.node(parts[1], facts))
+        return self.binary(parts[0], self.node(parts[1], facts), self.node(parts[2], self.beside(e, facts)))
 
-    def variable(self, name):
+    def variable(self, name, facts):
         if name not in self.variables:
             spot = Place([], GLOBALS, 4 * self.sizes.places[name][1])
             return at(self.globals[name], lambda r: spot)
         number, ty = self.variables[name]
         if self.in_registers:
             return Value(ty, lambda d, r: [addu(d, ARGUMENTS + number, 0)], None, ARGUMENTS + number)
-        spot = self.of_frame(3 + self.layout[0][name][1])
-        return at(ty, lambda r: spot)
+        spot, held = self.of_frame(3 + self.layout[0][name][1]), facts.register(number)
+        return at(ty, lambda r: spot) if held is None else Value(ty, lambda d, r: moved(d, held), lambda r: spot, held)
 
     def of_frame(self, number):
         """The word of a number in the frame, which ends at FRAME_END."""
         return Place([], FRAME_END, 4 * (number - self.layout[2]))
 
-    def followed(self, pointer):
+    def target(self, e, facts):
         """What a pointer points to."""
+        pointer, tested = self.node(e, facts), self.number(e) not in facts.sure
+
         def place(r):
             code, q = pointer.operand(r)
-            return Place(code + [branch(False, q, 0, 1), to_fault('null')], q, 0)
-        return place
+            return Place(code + ([branch(False, q, 0, 1), to_fault('null')] if tested else []), q, 0)
+        return at(pointer.ty[1], place)
 
-    def field(self, kind, inner, name):
-        place, ty = (inner.place, inner.ty) if kind == 'field' else (self.followed(inner), inner.ty[1])
-        found, before = self.sizes.field(ty, name)
-        return at(found, lambda r: place(r).further(4 * before))
+    def field(self, struct, name):
+        found, before = self.sizes.field(struct.ty, name)
+        return at(found, lambda r: struct.place(r).further(4 * before))
 
     def indexed(self, base, index):
         element, length = base.ty[1], base.ty[2]
@@ -276,8 +283,6 @@ class Code:
         return at(element, place)
 
     def unary(self, op, inner):
-        if op == '*':
-            return at(inner.ty[1], self.followed(inner))
         if op == '&':
             return Value(('ptr', inner.ty), lambda d, r: inner.place(r).access(addiu, d, r))
         if op == '-' and inner.literal is not None:
@@ -299,19 +304,19 @@ class Code:
         return Value(ty, of_two(a, b, between(op)))
 
     # ---- tests: to a place that is so far behind their end, where they come out as s
-    def test(self, e, s, far, r=EXPRESSIONS):
+    def test(self, e, s, far, facts, r=EXPRESSIONS):
         op, parts = e.parts[0] if e.kind in ('un', 'bin') else None, e.parts[1:]
         if op == '!':
-            return self.test(parts[0], not s, far, r)
+            return self.test(parts[0], not s, far, facts, r)
         if op in ('&&', '||'):
-            right = self.test(parts[1], s, far, r)
+            right = self.test(parts[1], s, far, self.beside(e, facts), r)
             decides = op == '||'
-            return self.test(parts[0], decides, far + len(right) if decides == s else len(right), r) + right
+            return self.test(parts[0], decides, far + len(right) if decides == s else len(right), facts, r) + right
         if op in ('==', '!='):
-            return of_two(self.node(parts[0]), self.node(parts[1]), lambda _, q, t: [branch(s == (op == '=='), q, t, far)])(r, r)
+            return of_two(self.node(parts[0], facts), self.node(parts[1], facts), lambda _, q, t: [branch(s == (op == '=='), q, t, far)])(r, r)
         if op in ('<', '<=', '>', '>='):
-            return self.compared(op, self.node(parts[0]), self.node(parts[1]), s, far, r)
-        return of_one(self.node(e), lambda _, q: [branch(not s, q, 0, far)])(r, r)
+            return self.compared(op, self.node(parts[0], facts), self.node(parts[1], facts), s, far, r)
+        return of_one(self.node(e, facts), lambda _, q: [branch(not s, q, 0, far)])(r, r)
 
     def compared(self, op, a, b, s, far, r):
         """A comparison as a test: of `<` and `>=`, and of `<=` and `>`, the second is the first for the other s."""
@@ -324,35 +329,40 @@ class Code:
         return of_two(a, b, lambda _, q, t: [slt(SCRATCH, q, t) if below else slt(SCRATCH, t, q), branch(s != (op in ('<', '>')), SCRATCH, 0, far)])(r, r)
 
     # ---- statements
-    def block(self, statements):
-        return [word for s in statements for word in self.statement(s)]
+    def block(self, statements, facts):
+        return [word for s, known in self.each(statements, facts) for word in self.statement(s, known)]
 
     def stored(self, q, place, r):
         """The word of a register goes to a variable in a register, or to a place."""
-        return [addu(place.stands, q, 0)] if place.stands is not None else place.place(r).access(store, q, r)
+        return [addu(place.stands, q, 0)] if place.place is None else place.place(r).access(store, q, r)
 
-    def statement(self, s):
+    def statement(self, s, facts):
         if s.kind == 'assign':
-            place, value = self.node(s.parts[0]), self.node(s.parts[1])
-            if place.stands is not None:
+            place, value = self.node(s.parts[0], facts), self.node(s.parts[1], facts)
+            if place.place is None:
                 return value.value(place.stands, EXPRESSIONS)
             code, q = value.operand(EXPRESSIONS)
             return code + self.stored(q, place, EXPRESSIONS + 1)
         if s.kind == 'call':
-            given = [word for i, a in enumerate(s.parts[2]) for word in self.node(a).value(ARGUMENTS + i, EXPRESSIONS)]
-            return given + [('call', s.parts[1][0])] + self.stored(ANSWER, self.node(s.parts[0]), EXPRESSIONS)
+            given = [word for i, a in enumerate(s.parts[2]) for word in self.node(a, facts.overwritten(i)).value(ARGUMENTS + i, EXPRESSIONS)]
+            return given + [('call', s.parts[1][0])] + self.answer(s, facts)
         if s.kind == 'new':
-            return constant(ANSWER, self.sizes.words(bare(s.parts[1]))) + [('call', None)] + self.stored(ANSWER, self.node(s.parts[0]), EXPRESSIONS)
+            return constant(ANSWER, self.sizes.words(bare(s.parts[1]))) + [('call', None)] + self.answer(s, facts)
         test, yes, no = s.parts
         if s.kind == 'if':
-            first, other = self.block(yes), self.block(no)
-            return self.test(test, False, len(first) + bool(no)) + first + ([skip(len(other))] + other if no else [])
-        body = self.block(yes)
-        return [skip(len(body))] + body + self.turn(test, len(body))
+            first, other = self.block(yes, self.told(test, True, facts)), self.block(no, self.told(test, False, facts))
+            return self.test(test, False, len(first) + bool(no), facts) + first + ([skip(len(other))] + other if no else [])
+        known = self.turning(s, facts)
+        body = self.block(yes, self.told(test, True, known))
+        return [skip(len(body))] + body + self.turn(test, len(body), known)
 
-    def turn(self, test, body):
+    def answer(self, s, facts):
+        """The answer of a call, or of `new`, goes to its place."""
+        return self.stored(ANSWER, self.node(s.parts[0], self.left(s, facts)), EXPRESSIONS)
+
+    def turn(self, test, body, facts):
         """The test of a loop behind a body of so many words."""
-        return self.test(test, True, -(max(body, 1) + len(self.test(test, True, 0))))
+        return self.test(test, True, -(max(body, 1) + len(self.test(test, True, 0, facts))), facts)
 
     def kinds(self, statements):
         """Which kinds of statements there are."""
@@ -367,8 +377,12 @@ class Code:
     def function(self, f):
         if f.asm is not None:
             return self.asm_head(f) + assemble(f.asm[0]) + [RETURNS]
-        head = self.enter(f)
-        return head + self.block(f.body) + self.node(f.result).value(ANSWER, EXPRESSIONS) + self.end()
+        head, facts = self.enter(f), self.begins(f)
+        return head + self.block(f.body, facts) + self.result(f, self.behind_all(f.body, facts)) + self.end()
+
+    def result(self, f, facts):
+        """The answer of a function goes to its register."""
+        return self.node(f.result, facts).value(ANSWER, EXPRESSIONS)
 
     def asm_head(self, f):
         """The stack's test, and the arguments for a body of instructions."""
@@ -454,10 +468,7 @@ def is_cleared(f, number):
 
 def named(e):
     """The names of the variables in an expression."""
-    if e.kind == 'var':
-        return {e.parts[0]}
-    parts = e.parts if e.kind == 'index' else e.parts[1:] if e.kind in ('un', 'bin') else e.parts[:1] if e.kind in ('field', 'arrow') else ()
-    return {name for part in parts for name in named(part)}
+    return {e.parts[0]} if e.kind == 'var' else {name for part in inside(e) for name in named(part)}
 
 
 def live_before(statements, name, live):

@@ -21,7 +21,7 @@ CALLED_LEFT = 134      # the same of the user whose lines are counted, with line
 CALLED_BACK = 353      # and user mode is back after turn 1
 PRODUCTS_LEFT = 141    # the user of products and quotients
 PRODUCTS_BEGINS = 2981 # and its turn 1
-MESSAGES_STEPS = 9531  # messages: the whole run
+MESSAGES_STEPS = 9526  # messages: the whole run
 
 TAKEN = RESET + ' 1\nturn 1 cause 1 data 00000008 user 1 next 0\nhalted\nuser 1 pages 1 pc 00000000\nmem 00000000 0000000c\n'
 LATE = TAKEN.replace('cause 1 data 00000008', 'cause 6 data 0000000c').replace('pc 00000000', 'pc 00000004')

@@ -3,7 +3,7 @@ import os
 import unittest
 
 from oracle import values
-from oracle.c0 import checks, code, cut, emit, meaning, said, stack
+from oracle.c0 import checks, code, cut, emit, facts, meaning, ran, said, stack
 from oracle.c0.tokens import NoTree, line_of, tokens
 from oracle.c0.tree import Parser, unit_nodes
 from oracle.sources import Source
@@ -132,12 +132,46 @@ class Code(unittest.TestCase):
         # the program makes as many words of it; an element of more words than 1,024 is found by a product, two to the eleventh ones too
         found = KERNEL.replace('n = n + 1;', 'n = a[n][7];')
         self.assertEqual(code.code_words('int[2048][3] a; ' + found), code.code_words('int[2047][3] a; ' + found))
-        self.assertEqual((code.code_words(FAR), cut.Cut(FAR).at), (407, 407))
+        self.assertEqual((code.code_words(FAR), cut.Cut(FAR).at), (382, 382))
 
     def test_a_program_may_have_a_dispatch_of_its_own(self):
         made = cut.Cut('int dispatch() { return 1; } int main() { int x; x = dispatch(); x = trap(x); return x; }', True)
         self.assertEqual(made.primitive_numbers(), {'trap': 0})
         self.assertEqual([made.entry_of(name) for name in ('trap', 'dispatch')], [cut.PRIMITIVES, cut.START + 4 * made.starts['dispatch']])
+
+    def test_what_is_known(self):
+        """Before each statement of a function, and behind the last: the parameters in registers, the variable with the answer, and those that aren't null."""
+        source = '''struct s { int v; struct s* n; };
+struct s* f(struct s* p, struct s* q, int k) {
+  struct s* r; int x;
+  r = p->n;
+  r = f(q, r, k);
+  if (r != null && q->v == 1) { r = new struct s; } else { p = r; }
+  while (q != null || r->v > k) { x = vm_size(p->v); }
+  return q;
+}
+int dispatch(int a, int b, int c) { return 0; }'''
+        made = emit.Code(source)
+        f = made.tree.function_named('f')
+        made.enter(f)
+        known = [before for _, before in made.each(f.body, made.begins(f))] + [made.behind_all(f.body, made.begins(f))]
+        self.assertEqual([(sorted(it.params), it.answer, sorted(it.sure)) for it in known], [
+            ([0, 1, 2], None, []), ([0, 1, 2], None, [0]), ([], 3, [0]), ([], None, []), ([], None, [])])
+        choice, loop = f.body[2:]
+        self.assertEqual([sorted(made.told(choice.parts[0], s, facts.NOTHING).sure) for s in (True, False)], [[1, 3], []])
+        self.assertEqual([sorted(made.told(loop.parts[0], s, facts.NOTHING).sure) for s in (True, False)], [[], [3]])
+
+    def test_code_does_what_it_means(self):
+        self.assertTrue(sum(ran.random_met(seed) for seed in range(12)) > 200)
+
+    def test_a_fact_that_is_none_is_seen(self):
+        """Where a parameter would be known behind a call, too, code and meaning differ."""
+        called = facts.Facts.called
+        facts.Facts.called = lambda known: known._replace(answer=None)
+        self.addCleanup(setattr, facts.Facts, 'called', called)
+        with self.assertRaises(ran.Differs):
+            for seed in range(12):
+                ran.random_met(seed)
 
     def test_stack(self):
         self.assertEqual(stack.check(read('examples', 'messages', 'kernel.c0'), 64), 'yes 15\nchain dispatch pick\n')
