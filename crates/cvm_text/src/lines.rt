@@ -6,7 +6,7 @@ ghost use Rattle.cvm_text.specs.Lines.{lines_of, number_spelled};
 use crate::cutting::cut;
 use crate::read::read_decimal;
 
-#[tactic(auto, using(crate::proofs::FirstLine::lines_cut, crate::proofs::FirstLine::lines_last))]
+#[tactic(auto, using(crate::proofs::FirstLineIsCut::lines_cut, crate::proofs::FirstLineIsCut::lines_last))]
 /// The first line of a text that has one, and the text after it. LF ends a line, and the last may lack it.
 pub fn first_line(text: &[u8]) -> (&[u8], &[u8])
     requires { 0 < length text.now }
