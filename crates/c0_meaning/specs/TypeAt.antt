@@ -1,5 +1,6 @@
 -- The type of an expression, found by the kinds and numbers of its names alone.
 use Rattle.std.specs.Prelude.{◌≡◌, ℕ, List, [], ◌++◌, Option, Some, None, option_map, if◌then◌else◌, slice_get}
+use Rattle.c0_tree.specs.declared.tree.Kind.{Kind}
 use Rattle.c0_tree.specs.declared.tree.UnaryOp.{UnaryOp}
 use Rattle.c0_tree.specs.declared.tree.UnaryOp.TheVariants.{Negate, Not}
 use Rattle.c0_tree.specs.declared.tree.BinaryOp.{BinaryOp}
@@ -82,9 +83,9 @@ type_at env (binary s o a b) = Some (binary_type o)
 abbrev pub env_in : CUnit → CFunction → Env
 env_in u f = env_of [] u (f.params ++ locals_of f.body)
 
--- the type of an expression in the body of a function
-abbrev pub type_in : CUnit → CFunction → CExpr → Option Ty
-type_in u f e = type_at (env_in u f) e
+-- the type of a variable in the body of a function, by its kind and number
+abbrev pub variable_type : CUnit → CFunction → Kind → ℕ → Option Ty
+variable_type u f k n = option_map (λ d. d.ty) (variable_at (env_in u f) k n)
 
 -- the names in a type that was found are resolved
 abbrev pub IsFoundResolved : List Shape → Found → Type 0

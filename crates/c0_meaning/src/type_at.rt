@@ -1,9 +1,9 @@
-// The types of expressions, by the numbers of their names.
+// The types of expressions, by the numbers of their names, step by step: each from those of its parts.
 
 ghost use Rattle.std.specs.Prelude.{◌≡◌, ◌<◌, ◌++◌, List, Some, length, get_or, map, option_map, slice_get, true};
 ghost use Rattle.std.specs.List.{All};
 ghost use Rattle.c0_tree.specs.Tree.{CFunction, named};
-ghost use Rattle.c0_tree.specs.View.{decl_view, expr_view, function_view, name_view, unit_view};
+ghost use Rattle.c0_tree.specs.View.{decl_view, function_view, name_view, unit_view};
 ghost use Rattle.c0_meaning.specs.Env.{Shape, typed_of};
 ghost use Rattle.c0_meaning.specs.Expression as expression;
 ghost use Rattle.c0_meaning.specs.Form.{found_view, is_declared};
@@ -18,11 +18,10 @@ ghost use Rattle.c0_meaning.specs.Words.{shape_fields};
 
 use crate::form::Found;
 use crate::measured::Measured;
-use crate::shape::is_place;
-use c0_tree::{BinaryOp, Body, CType, Decl, Expr, Function, Kind, Name, StructDef, UnaryOp};
+use c0_tree::{BinaryOp, Body, CType, Decl, Function, Kind, Name, StructDef, UnaryOp};
 
-// The type behind a pointer.
-fn target_of<'a>(found: Found<'a>) -> Found<'a>
+/// The type behind a pointer.
+pub fn target_of<'a>(found: Found<'a>) -> Found<'a>
     ensures gives { found_view result ≡ expression.target (found_view found.entry) }
     ensures declared { is_declared result ≡ true }
     ensures resolved { (structs : List Shape) → IsFoundResolved structs found.entry → IsFoundResolved structs result }
@@ -42,8 +41,8 @@ fn target_of<'a>(found: Found<'a>) -> Found<'a>
     }
 }
 
-// The type of an array's elements.
-fn element_of<'a>(found: Found<'a>) -> Found<'a>
+/// The type of an array's elements.
+pub fn element_of<'a>(found: Found<'a>) -> Found<'a>
     ensures gives { found_view result ≡ spec.element (found_view found.entry) }
     ensures declared { is_declared result ≡ true }
     ensures resolved { (structs : List Shape) → IsFoundResolved structs found.entry → IsFoundResolved structs result }
@@ -63,8 +62,8 @@ fn element_of<'a>(found: Found<'a>) -> Found<'a>
     }
 }
 
-// The type of a pointer to a place of the type.
-fn pointer_to<'a>(found: Found<'a>) -> Found<'a>
+/// The type of a pointer to a place of the type.
+pub fn pointer_to<'a>(found: Found<'a>) -> Found<'a>
     requires { is_declared found ≡ true }
     ensures gives { found_view result ≡ option_map pointer (found_view found.entry) }
     ensures resolved { (structs : List Shape) → IsFoundResolved structs found.entry → IsFoundResolved structs result }
@@ -78,8 +77,8 @@ fn pointer_to<'a>(found: Found<'a>) -> Found<'a>
     }
 }
 
-// The type that an operator before its operand gives.
-fn unary_type<'a>(op: UnaryOp) -> Found<'a>
+/// The type that an operator before its operand gives.
+pub fn unary_type<'a>(op: UnaryOp) -> Found<'a>
     ensures gives { found_view result ≡ Some (spec.unary_type op) }
     ensures resolved { (structs : List Shape) → IsFoundResolved structs result }
 {
@@ -89,8 +88,8 @@ fn unary_type<'a>(op: UnaryOp) -> Found<'a>
     }
 }
 
-// The type that an operator between two operands gives.
-fn binary_type<'a>(op: BinaryOp) -> Found<'a>
+/// The type that an operator between two operands gives.
+pub fn binary_type<'a>(op: BinaryOp) -> Found<'a>
     ensures gives { found_view result ≡ Some (spec.binary_type op) }
     ensures resolved { (structs : List Shape) → IsFoundResolved structs result }
 {
@@ -124,8 +123,8 @@ fn declared_type<'a>(decls: &'a [Decl], number: usize) -> Found<'a>
     }
 }
 
-// The type of the field of a number, where a type is a struct.
-fn field_type<'a>(unit: &Measured<'a>, found: Found<'a>, number: u32) -> Found<'a>
+/// The type of the field of a number, where a type is a struct.
+pub fn field_type<'a>(unit: &Measured<'a>, found: Found<'a>, number: u32) -> Found<'a>
     requires { IsFoundResolved (shapes (unit_view unit.now)) found }
     ensures gives { found_view result ≡ spec.field_type (shapes (unit_view unit.now)) (found_view found.entry) number }
     ensures declared { is_declared result ≡ true }
@@ -189,8 +188,8 @@ fn local_type<'a>(function: &'a Function, number: usize) -> Found<'a>
     }
 }
 
-// The type of a variable, by its kind and number.
-fn variable_type<'a>(
+// The type of a variable of a function, by its kind and number.
+fn variable_in<'a>(
     unit: &Measured<'a>,
     function: &'a Function,
     kind: Kind,
@@ -212,42 +211,17 @@ fn variable_type<'a>(
     }
 }
 
-// The type of an expression in a function.
-fn type_in<'a>(unit: &Measured<'a>, function: &'a Function, expr: &Expr) -> Found<'a>
-    requires { IsSizedFunction (shapes (unit_view unit.now)) (function_view function.now) }
-    ensures gives { found_view result ≡ spec.type_at (env_in (unit_view unit.now) (function_view function.now)) (expr_view expr.now) }
-    ensures declared { expression.is_lvalue (expr_view expr.now) ≡ true → is_declared result ≡ true }
-    ensures resolved { IsFoundResolved (shapes (unit_view unit.now)) result }
-{
-    match expr {
-        Expr::Num(_, _) => Found::Int,
-        Expr::True(_) => Found::Bool,
-        Expr::False(_) => Found::Bool,
-        Expr::Null(_) => Found::Nothing,
-        Expr::Var(name) => variable_type(unit, function, name.kind, name.number),
-        Expr::Field(_, part, name) => field_type(unit, type_in(unit, function, part), name.number),
-        Expr::Arrow(_, part, name) => {
-            field_type(unit, target_of(type_in(unit, function, part)), name.number)
-        }
-        Expr::Index(_, part, _) => element_of(type_in(unit, function, part)),
-        Expr::Deref(_, part) => target_of(type_in(unit, function, part)),
-        Expr::AddressOf(_, part) => {
-            if is_place(part) {
-                pointer_to(type_in(unit, function, part))
-            } else {
-                Found::Nothing
-            }
-        }
-        Expr::Unary(_, op, _) => unary_type(*op),
-        Expr::Binary(_, op, _, _) => binary_type(*op),
-    }
-}
-
-/// The type of an expression in the function of a number, found by the kinds and numbers of its names; `null` has none by itself.
-pub fn type_at<'a>(unit: &Measured<'a>, function: u32, expr: &Expr) -> Found<'a>
+/// The type of a variable in the function of a number, by its kind and number.
+pub fn variable_type<'a>(unit: &Measured<'a>, function: u32, kind: Kind, number: u32) -> Found<'a>
     requires { function < length unit.now.functions.items }
-    ensures gives { (f : CFunction) → IsAt function (unit_view unit.now) f → found_view result ≡ spec.type_in (unit_view unit.now) f (expr_view expr.now) }
+    ensures gives { (f : CFunction) → IsAt function (unit_view unit.now) f → found_view result ≡ spec.variable_type (unit_view unit.now) f kind number }
+    ensures declared { is_declared result ≡ true }
     ensures resolved { IsFoundResolved (shapes (unit_view unit.now)) result }
 {
-    type_in(unit, &unit.unit().functions[function as usize], expr)
+    variable_in(
+        unit,
+        &unit.unit().functions[function as usize],
+        kind,
+        number,
+    )
 }

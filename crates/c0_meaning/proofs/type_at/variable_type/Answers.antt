@@ -1,19 +1,28 @@
-use Rattle.std.proofs.Common.{◌≡◌, List, map, subst, sym, ap, ◌∙◌}
-use Rattle.std.specs.List.{All}
-use Rattle.c0_tree.specs.declared.tree.Decl.{Decl}
+use Rattle.std.proofs.Common.{◌≡◌, get_or, subst, sym, ap, ◌∙◌}
+use Rattle.std.specs.Prelude.{option_map}
+use Rattle.c0_tree.specs.declared.tree.Function.{Function}
 use Rattle.c0_tree.specs.declared.tree.Unit.{Unit as Source}
-use Rattle.c0_tree.specs.Tree.{CDecl}
-use Rattle.c0_tree.specs.View.{decl_view, unit_view}
-use Rattle.c0_meaning.specs.Sound.{shapes, IsSized}
-use Rattle.c0_meaning.proofs.WellFormed.{well_formed_globals}
+use Rattle.c0_tree.specs.Tree.{CFunction}
+use Rattle.c0_tree.specs.View.{unit_view, function_view}
+use Rattle.c0_meaning.specs.Env.{Typed}
+use Rattle.c0_meaning.specs.Numbered.{variable_at}
+use Rattle.c0_meaning.specs.Sound.{shapes, IsSizedFunction}
+use Rattle.c0_meaning.specs.TypeAt.{env_in}
+use Rattle.c0_meaning.proofs.SizedTypes.{function_at, function_there}
+use Rattle.c0_meaning.proofs.WellFormed.{well_formed_functions}
 use Rattle.c0_meaning.proofs.type_at.variable_type.Goals as goal
 
-pub returns-in-Global-clause-resolved : goal.returns-in-Global-clause-resolved
-returns-in-Global-clause-resolved c =
-    let e : c.deref.result.now ≡ c.args.unit.now.globals.items = c.deref.ensures.value ∙ ap (λ (u : Source). u.globals.items) c.unit.ensures.same in
-    c.declared_type.ensures.resolved (shapes (unit_view c.args.unit.now))
-    (subst (λ (ds : List Decl). All (λ (x : CDecl). IsSized (shapes (unit_view c.args.unit.now)) x.ty) (map decl_view ds)) (sym e)
-    (well_formed_globals _ _ c.unit.ensures.well_formed.1))
+pub variable_in-requires : goal.variable_in-requires
+variable_in-requires c =
+    let e : c.index.result.now ≡ get_or c.args.unit.now.functions.items c.args.function c.index.result.now =
+    c.index.ensures ∙ ap (λ (u : Source). get_or u.functions.items c.args.function c.index.result.now) c.unit.ensures.same in
+    subst (λ (f : Function). IsSizedFunction (shapes (unit_view c.args.unit.now)) (function_view f)) (sym e)
+    (function_at (shapes (unit_view c.args.unit.now)) c.args.unit.now.functions.items c.args.function c.index.result.now (well_formed_functions _ _ c.unit.ensures.well_formed.1) c.requires)
 
-pub returns-in-Local-clause-resolved : goal.returns-in-Local-clause-resolved
-returns-in-Local-clause-resolved c = c.local_type.ensures.resolved _ c.requires
+pub returns-clause-gives : goal.returns-clause-gives
+returns-clause-gives c = λ f h.
+    let e : c.index.result.now ≡ get_or c.args.unit.now.functions.items c.args.function c.index.result.now =
+    c.index.ensures ∙ ap (λ (u : Source). get_or u.functions.items c.args.function c.index.result.now) c.unit.ensures.same in
+    c.variable_in.ensures.gives
+    ∙ ap (λ (g : CFunction). option_map (λ (d : Typed). d.ty) (variable_at (env_in (unit_view c.args.unit.now) g) c.args.kind c.args.number))
+    (ap function_view e ∙ function_there c.args.unit.now.functions.items c.args.function c.index.result.now f h)
