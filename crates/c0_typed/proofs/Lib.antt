@@ -1,4 +1,5 @@
 mod StructsByNumber
+mod KeptTypes
 mod TreesOfLists
 mod OneFunctionMore
 mod SizedBodies

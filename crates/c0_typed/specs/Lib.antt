@@ -4,6 +4,7 @@ pub mod Leaf
 pub mod Typed
 pub mod Seen
 pub mod SeenEnv
+pub mod Elaborated
 pub mod Sized
 pub mod Sorted
 pub mod Laws

@@ -10,6 +10,7 @@
 
 mod build;
 mod bytes;
+mod elaborated;
 mod expression;
 mod function;
 pub mod laws;

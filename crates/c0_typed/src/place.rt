@@ -1,9 +1,7 @@
 // Variables, the bytes before fields, and the elements of arrays.
 
-ghost use Rattle.std.specs.Prelude.{◌≡◌, ◌*◌, ◌%◌, ◌^◌, List};
+ghost use Rattle.std.specs.Prelude.{◌≡◌, ◌*◌, ◌%◌, ◌^◌};
 ghost use Rattle.c0_tree.specs.View.{type_view};
-ghost use Rattle.c0_meaning.specs.Env.{Shape};
-ghost use Rattle.c0_meaning.specs.Expression.{target};
 ghost use Rattle.c0_meaning.specs.Form.{found_view};
 ghost use Rattle.c0_meaning.specs.Sound.{shapes, IsSized};
 ghost use Rattle.c0_meaning.specs.Ty.{ty_of};
@@ -74,26 +72,6 @@ pub fn field_bytes(function: &SeenFunction<'_>, found: Found<'_>, number: u32) -
             CType::Pointer(_) => 0,
             CType::Named(owner) => in_bytes(words_to_field(function.unit, owner, number)),
             CType::Array(_, _) => 0,
-        },
-    }
-}
-
-/// The type behind a pointer.
-pub fn target_of<'a>(found: Found<'a>) -> Found<'a>
-    ensures gives { found_view result ≡ target (found_view found.entry) }
-    ensures resolved { (structs : List Shape) → IsFoundResolved structs found.entry → IsFoundResolved structs result }
-{
-    match found {
-        Found::Nothing => Found::Nothing,
-        Found::Int => Found::Nothing,
-        Found::Bool => Found::Nothing,
-        Found::To(ty) => Found::Of(ty),
-        Found::Of(ty) => match ty {
-            CType::Int => Found::Nothing,
-            CType::Bool => Found::Nothing,
-            CType::Pointer(behind) => Found::Of(behind),
-            CType::Named(_) => Found::Nothing,
-            CType::Array(_, _) => Found::Nothing,
         },
     }
 }
