@@ -1,10 +1,9 @@
 -- The registers that have words of variables: register 2, and those of arguments.
 use Rattle.std.specs.Prelude.{get_or, ◌&&◌}
-use Rattle.std.proofs.Common.{◌≡◌, ℕ, ◌+◌, ◌<◌, inl, inr, ◌⊎◌, Bool, true, false, cond, nat_lt, Option, Some, None, refl, sym, subst, arith}
+use Rattle.std.proofs.Common.{◌≡◌, ℕ, ◌<◌, Bool, true, false, cond, nat_lt, Option, Some, None, refl, arith}
 use Rattle.std.proofs.lemmas.Bool.{ltb-true}
 use Rattle.c0_expr_code.specs.declared.facts.Facts.{Facts}
 use Rattle.c0_expr_code.specs.Facts.{holds_answer, holds_param, register_holding, register_of_variable}
-use Rattle.c0_expr_code.specs.Relation.{Source, answer, far}
 
 first_of : (a b : Bool) → (a && b) ≡ true → a ≡ true
 first_of true b h = refl
@@ -25,24 +24,3 @@ holding_small fs n = by_answer (holds_answer fs.answer n) (holds_param fs n)
     by_answer true b q e = some_is 2 q e (omega arith)
     by_answer false true q e = some_is (register_of_variable n) q e (omega arith)
     by_answer false false q e = absurd (cc)
-
--- which register that is
-pub held_in : (fs : Facts) (n q : ℕ) → register_holding fs n ≡ Some q
-    → ((holds_answer fs.answer n ≡ true) × (q ≡ 2)) ⊎ ((holds_param fs n ≡ true) × (q ≡ 20 + n))
-held_in fs n q = by_answer (holds_answer fs.answer n) refl (holds_param fs n) refl
-  where
-    same : (a b : ℕ) → ◌≡◌ {A = Option ℕ} (Some a) (Some b) → b ≡ a
-    same a b e = cc
-
-    by_answer : (a : Bool) → holds_answer fs.answer n ≡ a → (b : Bool) → holds_param fs n ≡ b
-        → cond a (Some 2) (cond b (Some (register_of_variable n)) None) ≡ Some q → ((holds_answer fs.answer n ≡ true) × (q ≡ 2)) ⊎ ((holds_param fs n ≡ true) × (q ≡ 20 + n))
-    by_answer true ha b hb e = inl (ha, same 2 q e)
-    by_answer false ha true hb e = let z = same (register_of_variable n) q e in let few = param_below fs n hb in inr (hb, omega (arith, z, few))
-    by_answer false ha false hb e = absurd (cc)
-
--- code keeps it
-pub held_source : (fs : Facts) (n q r : ℕ) → register_holding fs n ≡ Some q → Source r q
-held_source fs n q r e = elim (held_in fs n q e) [
-  | inl z ↦ subst (λ x. Source r x) (sym z.1) answer
-  | inr z ↦ let w = z.1 in far (omega (arith, w))
-]

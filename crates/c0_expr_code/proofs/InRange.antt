@@ -22,7 +22,7 @@ use Rattle.c0_expr_code.specs.Facts.{is_sure_pointer, register_holding}
 use Rattle.c0_expr_code.specs.Scope.{Scope}
 use Rattle.c0_expr_code.specs.Code.{element_words, length_in, AddressingMode, Made, constant_code, is_near, low, high, access_code, store_code, or_code, operand_code, operand_register, no_address, at_place, constant, only_value, global_address, local_address, register_made, register_of_variable, variable_made, frame_made, null_test, right_facts, displaced, target_address, bound_code, shift_within, POWERS, scaled_code, scale_code, tested_address, element_address, to_code, two_code, one_code, logic_code, negated, negative_made, unary_made, operator_code, Immediate, when_near, equality_with, immediate, immediate_of, operator_made, sum_made, is_never_zero, divisor_code, division_made, binary_made, made}
 use Rattle.c0_expr_code.specs.Test.{branch_code, negative_branch, positive_branch, below_code, compare_code, ImmediateTest, immediate_test, immediate_test_of, Testing, compare_test, both_code, binary_test, plain_test, test_code}
-use Rattle.c0_expr_code.proofs.EveryExpression.{need_some}
+use Rattle.c0_expr_code.proofs.NeedsAreSome.{need_some}
 use Rattle.c0_expr_code.proofs.FactRegisters.{holding_small}
 
 -- instruction by instruction

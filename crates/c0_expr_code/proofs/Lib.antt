@@ -1,39 +1,9 @@
-mod FactRegisters
-mod FollowedAreSure
-mod ToldIsSo
-mod SameRegisters
-mod BothSidesKnow
-mod StoresKeepFacts
-mod CodeRuns
-mod OnePartMore
-mod WordsOfValues
-mod PartsAtOffsets
-mod SideBySide
-mod AddressingModes
-mod NodesEvaluate
-mod ProductsOfWords
-mod IndexScaled
-mod ElementsTested
-mod OperatorsGiveInts
-mod OperatorsOnRegisters
-mod ConstantOperands
-mod ShortExpressions
-mod NodeTypes
-mod EveryExpression
-mod TestLengths
-mod TestsGoByAnswers
-mod TestsWhole
-mod CostsWithinNodes
+pub mod FactRegisters
+pub mod ShortExpressions
+pub mod NodeTypes
+pub mod TestLengths
 mod CodeNeverEmpty
 mod JudgedByVariables
-mod StoredAtPath
-mod LiveLocals
-mod FramePlaces
-mod FittingParts
-mod ScalarStores
-mod AreasHold
-mod WordStored
-mod OtherFrames
 mod InRange
 mod PatchedIsTestCode
 mod ExitsAreNear
@@ -42,3 +12,4 @@ mod BranchPatched
 mod UnpatchedTests
 mod PowersOfTwo
 mod NodesAreMade
+pub mod NeedsAreSome

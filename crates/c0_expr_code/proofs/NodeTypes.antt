@@ -1,9 +1,7 @@
--- The types that the code goes by, and which constants nodes are.
-use Rattle.std.specs.Prelude.{pos, neg_ℤ, option_map, FitsSigned, Ok}
-use Rattle.std.specs.Int.{int_wrap, w32}
-use Rattle.std.proofs.Common.{◌≡◌, ℕ, ◌+◌, ◌-◌, ◌%◌, ◌^◌, ◌≤◌, Bool, true, false, cond, Option, Some, None, refl, sym, ap, ◌∙◌, subst, arith}
+-- The types that the code goes by, and which numbers are written.
+use Rattle.std.specs.Prelude.{option_map}
+use Rattle.std.proofs.Common.{◌≡◌, ℕ, Bool, true, false, cond, Option, Some, None, refl, ap, ◌∙◌}
 use Rattle.std.proofs.lemmas.Bool.{cond-true}
-use Rattle.std.proofs.lemmas.Int.{SFits-int_wrap}
 use Rattle.c0_tree.specs.declared.tree.Kind.{Kind}
 use Rattle.c0_tree.specs.declared.tree.Kind.TheVariants.{Unresolved, Struct, Field, Global, Local, Function, Primitive}
 use Rattle.c0_tree.specs.declared.tree.UnaryOp.{UnaryOp}
@@ -18,21 +16,11 @@ use Rattle.c0_meaning.specs.Expression.{target}
 use Rattle.c0_meaning.specs.Judgement.{IsArithmetic, add, sub, mul, div, rem, IsOrdering, lt, le, gt, ge, IsEquality, eq, ne, IsLogical, and, or}
 use Rattle.c0_meaning.specs.Numbered.{HasNumberedType, a_number, a_true, a_false, a_variable, a_field, a_target_field, an_element, a_target, an_address, a_negative, a_negation, arithmetic, order, logic, equality, null_left, null_right}
 use Rattle.c0_meaning.specs.TypeAt.{field_type, element, binary_type, type_at}
-use Rattle.c0_meaning.specs.TypedState.{Fits}
-use Rattle.c0_meaning.specs.State.{C0State}
-use Rattle.c0_meaning.specs.Value.{Value, int, bool}
-use Rattle.c0_meaning.specs.Value as value
-use Rattle.c0_meaning.specs.Operators.{on_unary}
-use Rattle.c0_meaning.specs.Evaluation.{Costed, costs, at_no_cost, paying, ◌>>=◌, value_of}
-use Rattle.cvm_words.specs.Words.{word_of}
 use Rattle.c0_typed.specs.Typed.{typed_of_expr, written_number}
 use Rattle.c0_expr_code.specs.declared.facts.Facts.{Facts}
 use Rattle.c0_expr_code.specs.Facts.{register_holding}
 use Rattle.c0_expr_code.specs.Scope.{Scope}
-use Rattle.c0_expr_code.specs.Code.{Made, frame_made, right_facts, register_made, register_of_variable, local_address, variable_made, negated, negative_made, unary_made, Immediate, immediate_of, operator_made, sum_made, binary_made, made}
-use Rattle.c0_expr_code.specs.Bases.{Bases, word_of_scalar}
-use Rattle.c0_expr_code.specs.Relation.{layout}
-use Rattle.c0_expr_code.proofs.WordsOfValues.{word_pos, word_negative}
+use Rattle.c0_expr_code.specs.Code.{Made, frame_made, right_facts, register_made, register_of_variable, local_address, variable_made, negative_made, unary_made, Immediate, immediate_of, operator_made, sum_made, binary_made, made}
 
 arithmetic_gives : (o : BinaryOp) → IsArithmetic o → binary_type o ≡ ty.int
 arithmetic_gives _ add = refl
@@ -92,7 +80,7 @@ sum_not_constant None (Some g) a b = record { literal = refl; known = refl }
 sum_not_constant None None a b = record { literal = refl; known = refl }
 
 module _ (sc : Scope) where
-  binary_not_constant : (o : BinaryOp) (a b : Made) → IsNotConstant (binary_made sc o a b)
+  pub binary_not_constant : (o : BinaryOp) (a b : Made) → IsNotConstant (binary_made sc o a b)
   binary_not_constant Add a b = sum_not_constant (immediate_of Add b.known) (immediate_of Add a.known) a b
   binary_not_constant Sub a b = operator_not_constant (immediate_of Sub b.known) Sub a b
   binary_not_constant Mul a b = record { literal = refl; known = refl }
@@ -107,7 +95,7 @@ module _ (sc : Scope) where
   binary_not_constant And a b = record { literal = refl; known = refl }
   binary_not_constant Or a b = record { literal = refl; known = refl }
 
-  variable_not_constant : (fs : Facts) (k : Kind) (n : ℕ) → IsNotConstant (variable_made sc fs k n)
+  pub variable_not_constant : (fs : Facts) (k : Kind) (n : ℕ) → IsNotConstant (variable_made sc fs k n)
   variable_not_constant fs Global n = record { literal = refl; known = refl }
   variable_not_constant fs Local n = by_form sc.in_registers
     where
@@ -120,11 +108,11 @@ module _ (sc : Scope) where
   variable_not_constant fs Function n = record { literal = refl; known = refl }
   variable_not_constant fs Primitive n = record { literal = refl; known = refl }
 
-  negative_literal : (o : Option ℕ) (m : Made) → (negative_made o m).literal ≡ None
+  pub negative_literal : (o : Option ℕ) (m : Made) → (negative_made o m).literal ≡ None
   negative_literal (Some n) m = refl
   negative_literal None m = refl
 
-  none_some : {A : Type 0} (o : Option A) (a : A) → o ≡ None → o ≡ Some a → ⊥
+  pub none_some : {A : Type 0} (o : Option A) (a : A) → o ≡ None → o ≡ Some a → ⊥
   none_some o a e q = cc
 
   unary_literal : (o : UnaryOp) (m : Made) → (unary_made o m).literal ≡ None
@@ -145,77 +133,3 @@ module _ (sc : Scope) where
   literal_written fs (address p a) = refl
   literal_written fs (unary p o a) = unary_literal o (made sc fs a)
   literal_written fs (binary p o a b) = (binary_not_constant o (made sc fs a) (made sc (right_facts o (typed_of_expr sc.env a) fs) b)).literal
-
-  -- and is what the expression comes to
-  pub literal_is : (fs : Facts) (e : CExpr) (c : ℕ) (s : C0State) → (made sc fs e).literal ≡ Some c → value_of e s ≡ costs 1 (Ok (int (pos c)))
-  literal_is fs (num p n) c s e = let q : n ≡ c = cc in ap (λ m. costs 1 (Ok (int (pos m)))) q
-  literal_is fs (var x) c s e = absurd (none_some _ c (variable_not_constant fs x.kind x.number).literal e)
-  literal_is fs (unary p Negate a) c s e = absurd (none_some _ c (negative_literal (made sc fs a).literal (made sc fs a)) e)
-  literal_is fs (unary p Not a) c s e = absurd (cc)
-  literal_is fs (binary p o a b) c s e = absurd (none_some _ c (binary_not_constant o (made sc fs a) (made sc (right_facts o (typed_of_expr sc.env a) fs) b)).literal e)
-  literal_is fs (true_ p) c s e = absurd (cc)
-  literal_is fs (false_ p) c s e = absurd (cc)
-  literal_is fs (null p) c s e = absurd (cc)
-  literal_is fs (field p a f) c s e = absurd (cc)
-  literal_is fs (arrow p a f) c s e = absurd (cc)
-  literal_is fs (index p a i) c s e = absurd (cc)
-  literal_is fs (deref p a) c s e = absurd (cc)
-  literal_is fs (address p a) c s e = absurd (cc)
-
-  pub small_literal : (fs : Facts) (e : CExpr) (c : ℕ) → HasNumberedType sc.env e ty.int → (made sc fs e).literal ≡ Some c → FitsSigned w32 (pos c)
-  small_literal fs _ c (a_number {n = n} h) e = let q : n ≡ c = cc in subst (λ m. FitsSigned w32 (pos m)) q (record { sfits = omega (arith, h) })
-  small_literal fs (var x) c h e = absurd (none_some _ c (variable_not_constant fs x.kind x.number).literal e)
-  small_literal fs (unary p Negate a) c h e = absurd (none_some _ c (negative_literal (made sc fs a).literal (made sc fs a)) e)
-  small_literal fs (binary p o a b) c h e = absurd (none_some _ c (binary_not_constant o (made sc fs a) (made sc (right_facts o (typed_of_expr sc.env a) fs) b)).literal e)
-  small_literal fs (field p a f) c h e = absurd (cc)
-  small_literal fs (arrow p a f) c h e = absurd (cc)
-  small_literal fs (index p a i) c h e = absurd (cc)
-  small_literal fs (deref p a) c h e = absurd (cc)
-
-  module _ (p : Bases) where
-    -- an evaluation comes to a value of a known word
-    pub record KnownAs (t : Ty) (k : ℕ) (y : Costed Value) : Type 0 where
-      pub units : ℕ
-      pub value : Value
-      pub is : y ≡ costs units (Ok value)
-      pub some : 1 ≤ units
-      pub fits : Fits sc.env.structs (layout sc p) t value
-      pub word_is : word_of_scalar sc p value ≡ k
-
-    negative_word : (n : ℕ) → FitsSigned w32 (pos n) → word_of (int_wrap w32 (neg_ℤ (pos n))) ≡ negated n
-    negative_word n h = sym (word_negative (pos n) h) ∙ ap (λ y. (0 + (2 ^ 32 - y)) % 2 ^ 32) (word_pos n h) ∙ omega arith
-
-    pub negative_known : (fs : Facts) (e : CExpr) (s : C0State) (k : ℕ) (o : Option ℕ) → HasNumberedType sc.env e ty.int → (made sc fs e).literal ≡ o
-        → (negative_made o (made sc fs e)).known ≡ Some k → KnownAs ty.int k (paying 1 (value_of e s >>= λ v. at_no_cost (on_unary Negate v)))
-    negative_known fs e s k None h q g = absurd (cc)
-    negative_known fs e s k (Some n) h q g =
-        let fits = small_literal fs e n h q in
-        let z : negated n ≡ k = cc in
-        record {
-          units = 1 + (1 + 0);
-          value = int (int_wrap w32 (neg_ℤ (pos n)));
-          is = ap (λ (z : Costed Value). paying 1 (z >>= λ v. at_no_cost (on_unary Negate v))) (literal_is fs e n s q);
-          some = omega arith;
-          fits = SFits-int_wrap w32 _;
-          word_is = negative_word n fits ∙ z;
-        }
-
-    pub known_is : (fs : Facts) (e : CExpr) (t : Ty) (s : C0State) (k : ℕ) → HasNumberedType sc.env e t → (made sc fs e).known ≡ Some k → KnownAs t k (value_of e s)
-    known_is fs _ _ s k (a_number {n = n} h) e =
-        let q : n ≡ k = cc in
-        let fits : FitsSigned w32 (pos n) = record { sfits = omega (arith, h) } in
-        record { units = 1; value = int (pos n); is = refl; some = omega arith; fits = fits; word_is = word_pos n fits ∙ q }
-    known_is fs _ _ s k a_true e = let q : 1 ≡ k = cc in record { units = 1; value = bool true; is = refl; some = omega arith; fits = tt; word_is = q }
-    known_is fs _ _ s k a_false e = let q : 0 ≡ k = cc in record { units = 1; value = bool false; is = refl; some = omega arith; fits = tt; word_is = q }
-    known_is fs (var x) t s k h e = absurd (none_some _ k (variable_not_constant fs x.kind x.number).known e)
-    known_is fs (field p a f) t s k h e = absurd (cc)
-    known_is fs (arrow p a f) t s k h e = absurd (cc)
-    known_is fs (index p a i) t s k h e = absurd (cc)
-    known_is fs (deref p a) t s k h e = absurd (cc)
-    known_is fs (address p a) t s k h e = absurd (cc)
-    known_is fs _ _ s k (a_negative {e = a} h) e = negative_known fs a s k (made sc fs a).literal h refl e
-    known_is fs _ _ s k (a_negation {e = a} h) e = absurd (cc)
-    known_is fs (binary p o a b) t s k h e = absurd (none_some _ k (binary_not_constant o (made sc fs a) (made sc (right_facts o (typed_of_expr sc.env a) fs) b)).known e)
-
-    pub null_known : (t : Ty) (k : ℕ) → ◌≡◌ {A = Option ℕ} (Some 0) (Some k) → KnownAs (ty.pointer t) k (costs 1 (Ok value.null))
-    null_known t k e = let q : 0 ≡ k = cc in record { units = 1; value = value.null; is = refl; some = omega arith; fits = tt; word_is = q }

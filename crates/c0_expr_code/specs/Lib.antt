@@ -2,10 +2,7 @@ pub mod Scope
 pub mod Facts
 pub mod Code
 pub mod Test
-pub mod Bases
-pub mod Relation
 pub mod Laws
-pub mod FactLaws
 pub mod Jumps
 pub mod Rows
 pub mod Emit

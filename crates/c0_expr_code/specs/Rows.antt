@@ -12,8 +12,9 @@ use Rattle.c0_meaning.specs.Ty as ty
 use Rattle.c0_meaning.specs.Env.{Typed}
 pub use Rattle.c0_meaning.specs.Bare.{z, number}
 use Rattle.c0_meaning.specs.Operators.{KernelFault, NullUse, Bounds, DivZero, StackOut}
+use Rattle.c0_typed.specs.Tree as typed
 use Rattle.c0_expr_code.specs.declared.facts.Facts.{Facts}
-use Rattle.c0_expr_code.specs.Facts.{facts_answered, found_sure, nothing_known, start_facts}
+use Rattle.c0_expr_code.specs.Facts.{facts_answered, facts_followed, found_sure, nothing_known, start_facts}
 use Rattle.c0_expr_code.specs.Scope.{Scope}
 use Rattle.c0_expr_code.specs.Code.{constant_code, scale_code, store_code, value_code, place_address}
 use Rattle.c0_expr_code.specs.Test.{test_code}
@@ -140,7 +141,7 @@ abbrev pub n_next : CExpr
 n_next = arrow z n (numbered_name Field 1)
 
 -- What is known of variables: a parameter that its register still has, the variable that has an answer, and a pointer that isn't null: by what was
--- found before, and by the left side of `&&` and of `||`.
+-- found before, but not by a side that may be skipped, and by the left side of `&&` and of `||`.
 pub record AreFactRows : Type 0 where
   pub param : known_value (start_facts false 2) (binary z Add i (number 1)) 20 8 ≡ Addiu 20 20 1 ∷ []
   pub behind : known_value (start_facts false 1) n 8 8 ≡ Lw 8 29 65532 ∷ []
@@ -149,6 +150,8 @@ pub record AreFactRows : Type 0 where
   pub answer : known_value (facts_answered nothing_known 0) (binary z Add i i) 2 8 ≡ Addu 2 2 2 ∷ []
   pub returned : known_value (facts_answered nothing_known 0) i 2 8 ≡ []
   pub sure : known_value (found_sure nothing_known 1) n_next 8 8 ≡ Lw 8 29 65532 ∷ Lw 8 8 4 ∷ []
+  pub skipped : known_value (facts_followed (typed.either (typed.constant 0) (typed.target (typed.local 1 1))) nothing_known) n_next 8 8
+      ≡ Lw 8 29 65532 ∷ Bne 8 0 1 ∷ J 100 ∷ Lw 8 8 4 ∷ []
   pub both : known_test nothing_known (binary z And (binary z Ne n (null z)) (binary z Ne n_next (null z))) false 7 8
       ≡ Lw 8 29 65532 ∷ Beq 8 0 10 ∷ Lw 8 29 65532 ∷ Lw 8 8 4 ∷ Beq 8 0 7 ∷ []
   pub either : known_test nothing_known (binary z Or (binary z Eq n (null z)) (binary z Eq n_next (null z))) true 7 8

@@ -1,4 +1,4 @@
-//! The code of C0's expressions, and that it comes to what they mean.
+//! The code of C0's expressions, how long it is, and that it is in range.
 #![tactic(auto)]
 
 mod address;

@@ -7,8 +7,8 @@ use Rattle.c0_meaning.specs.Operators.{faulted, stuck}
 use Rattle.c0_meaning.specs.World.{Cost, units, total, plus, Configuration, call_cost}
 use Rattle.c0_meaning.specs.Running.{Work, Step, Go, Stop, work_step}
 use Rattle.c0_meaning.specs.Execution.{Outcome, Failed, NotYet, then_run, execute, run_within}
-use Rattle.c0_stmt_code.specs.Setup.{Setup}
-use Rattle.c0_stmt_code.specs.Standing.{CostsSome, Simulated, IsGone, IsCalling, StepIs, StepsRun, StepsCostSome}
+use Rattle.c0_runs.specs.Setup.{Setup}
+use Rattle.c0_runs.specs.Standing.{CostsSome, Simulated, IsGone, IsCalling, StepIs, StepsRun, StepsCostSome}
 use Rattle.c0_runs.specs.Runs.{Price, price_of, Hosts, Moment, RunTo}
 use Rattle.c0_runs.proofs.CallsStay.{Extends, Grows, acts, none_ended}
 

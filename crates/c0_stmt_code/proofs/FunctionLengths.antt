@@ -22,7 +22,7 @@ use Rattle.c0_expr_code.specs.Code.{register_of_variable, constant_code, access_
 use Rattle.c0_expr_code.specs.Test.{test_code}
 use Rattle.c0_stmt_code.specs.Live.{is_cleared}
 use Rattle.c0_stmt_code.specs.Code.{Links, callee_index, answer_code, args_code, otherwise, otherwise_at, turn_code, stmt_code, stmts_code, frame_slot, end_code, large_code, stack_test, save_code, restore_code, params_code, zeros_code, zeros_loop, locals_code, clear_code, frame_entry, frame_return, register_entry, register_return, entry_code, exit_code, return_code, body_code as code_of_body, zero_code, clear_one, behind_stmt, behind_stmts, first_facts, told_facts, turn_facts}
-use Rattle.c0_stmt_code.proofs.PremisesFromBelow.{LengthsFit}
+use Rattle.c0_stmt_code.proofs.PremisesOfFunctions.{LengthsFit}
 use Rattle.c0_stmt_code.proofs.ShortStatements.{access_length, stmts_length}
 
 -- another branch is as long where its code is

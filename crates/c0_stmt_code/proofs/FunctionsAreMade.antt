@@ -21,8 +21,7 @@ use Rattle.c0_expr_code.specs.Scope.{Scope, exit_of, scope_of}
 use Rattle.c0_stmt_code.specs.Code.{Links, behind_stmts, body_code, entry_code, exit_code, first_facts, function_code, links_of}
 use Rattle.c0_stmt_code.specs.TypedFunction.{typed_body_code, typed_function_code}
 use Rattle.c0_stmt_code.specs.TypedLaws.{StatementsAreMade}
-use Rattle.c0_stmt_code.proofs.PremisesFromBelow.{FunctionsAre}
-use Rattle.c0_stmt_code.proofs.PremisesOfExpressions.{given_in, functions_are}
+use Rattle.c0_stmt_code.proofs.PremisesOfFunctions.{FunctionsAre, given_in, functions_are}
 use Rattle.c0_stmt_code.proofs.TypedReads.{cleared_same, words_same}
 
 -- there are as many locals in the typed tree

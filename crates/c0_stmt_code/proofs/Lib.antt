@@ -1,46 +1,13 @@
 pub mod RegisterVariables
-pub mod FactsKept
-pub mod FactsBehind
-pub mod ArgumentsToRegisters
-pub mod AsmFunctionCalled
-pub mod WorkAsCode
-mod LiveAroundSteps
-pub mod CallActs
-pub mod FrameEntered
-pub mod UnitsWithinNodes
 pub mod PiecesAppended
 pub mod StatementCounts
 pub mod TypedIsEmittable
 pub mod TestsGetDistances
-pub mod WholeBegin
-pub mod AnswersToRegisters
-pub mod FrameMade
 pub mod FunctionLengths
-pub mod PremisesOfLowerCrates
-pub mod PremisesOfExpressions
-pub mod HeapGrows
-pub mod ValuesStay
 pub mod ShortStatements
-pub mod RegisterFrames
-mod FirstLive
-pub mod RegisterAssigned
-pub mod PremisesFromBelow
-pub mod ObjectMade
-pub mod ValuesToPlaces
-pub mod PrimitiveCalled
 pub mod FunctionRanges
-pub mod FunctionReturns
-pub mod RegionsApart
-pub mod StepSimulation
-pub mod MemoryAccess
-pub mod FunctionsUnderWay
-pub mod ChoicesAndLoops
-pub mod EachStep
-pub mod ScalarStored
-pub mod VariablesBegin
-pub mod RunStretches
-pub mod StepCosts
 pub mod StatementsAreMade
 mod TypedReads
 pub mod FunctionsAreMade
 pub mod TypedCanBeEmitted
+pub mod PremisesOfFunctions

@@ -1,6 +1,6 @@
 -- How long the code of statements is: at most 16 words a node.
 use Rattle.std.specs.Prelude.{Option, Some, None, if◌then◌else◌, nat_lt}
-use Rattle.std.proofs.Common.{◌≡◌, refl, inl, inr, ℕ, suc, ◌+◌, ◌*◌, ◌/◌, ◌%◌, ◌^◌, ◌≤◌, Bool, true, false, List, [], ◌∷◌, ◌++◌, length, ap, arith, length-append}
+use Rattle.std.proofs.Common.{◌≡◌, refl, inl, inr, ℕ, suc, ◌+◌, ◌*◌, ◌/◌, ◌%◌, ◌^◌, ◌≤◌, Bool, true, false, List, [], ◌∷◌, ◌++◌, length, ap, arith, length-append, ◌<◌}
 use Rattle.std.proofs.lemmas.Bool.{cases_Bool, cond-true, cond-false}
 use Rattle.mips_table.specs.declared.inst.Inst.{Inst}
 use Rattle.mips_table.specs.declared.inst.Inst.TheVariants.{Lui, Addu, Sw, Ori, Addiu, Jal}
@@ -15,8 +15,14 @@ use Rattle.c0_expr_code.specs.Code.{AddressingMode, is_near, low, high, access_c
 use Rattle.c0_expr_code.specs.Test.{test_code}
 use Rattle.c0_stmt_code.specs.Code.{Links, callee_index, answer_code, stored_code, assigned_code, args_code, otherwise, otherwise_at, back, turn_code, stmt_code, stmts_code, behind_stmt, told_facts, turn_facts}
 use Rattle.c0_stmt_code.proofs.RegisterVariables.{keeps_them}
-use Rattle.c0_stmt_code.proofs.PremisesFromBelow.{LengthsFit}
-use Rattle.c0_stmt_code.proofs.MemoryAccess.{access_longer}
+use Rattle.c0_stmt_code.proofs.PremisesOfFunctions.{LengthsFit}
+
+-- code on a place isn't empty
+pub access_longer : (i : ℕ → ℕ → Inst) (r : ℕ) (x : AddressingMode) → length x.code < length (access_code i r x)
+access_longer i r x = elim (cases_Bool (is_near x.displacement)) [
+  | inl e ↦ let same = ap (λ is. length (x.code ++ is)) (cond-true (is_near x.displacement) (i x.base (low x.displacement) ∷ []) (Lui 1 (high x.displacement) ∷ Addu r x.base 1 ∷ i r (low x.displacement) ∷ []) e) in omega (arith, same, length-append x.code (i x.base (low x.displacement) ∷ []))
+  | inr e ↦ let same = ap (λ is. length (x.code ++ is)) (cond-false (is_near x.displacement) (i x.base (low x.displacement) ∷ []) (Lui 1 (high x.displacement) ∷ Addu r x.base 1 ∷ i r (low x.displacement) ∷ []) e) in omega (arith, same, length-append x.code (Lui 1 (high x.displacement) ∷ Addu r x.base 1 ∷ i r (low x.displacement) ∷ []))
+]
 
 pub access_length : (i : ℕ → ℕ → Inst) (r : ℕ) (x : AddressingMode) → length (access_code i r x) ≤ length x.code + 3
 access_length i r x = elim (cases_Bool (is_near x.displacement)) [

@@ -21,7 +21,7 @@ use Rattle.c0_expr_code.specs.Test.{test_code}
 use Rattle.c0_stmt_code.specs.Code.{Links, assigned_code, callee_index, otherwise, otherwise_at, skip, stored_code, args_code, stmt_code, stmts_code, behind_stmt, told_facts, turn_facts}
 use Rattle.c0_stmt_code.specs.TypedCode.{typed_args, typed_otherwise, typed_otherwise_at, typed_stmt_code, typed_stmts_code}
 use Rattle.c0_stmt_code.specs.TypedLaws.{StatementsAreMade}
-use Rattle.c0_stmt_code.proofs.PremisesOfExpressions.{given_in}
+use Rattle.c0_stmt_code.proofs.PremisesOfFunctions.{given_in}
 
 module _ (law : NodesAreMade) (names : NamesAreEnough) (sc : Scope) (x : Links) (env : Env) (same_names : HaveSameNames env sc.env) where
   abbrev node : Facts → CExpr → Made

@@ -21,8 +21,7 @@ use Rattle.c0_typed.specs.Size.{typed_need, NeedsAreFew}
 use Rattle.c0_typed.specs.Typed.{typed_of_body, typed_of_expr, typed_of_function, typed_of_stmt, typed_of_stmts}
 use Rattle.c0_stmt_code.specs.Emit.{IsEmittable, AreEmittable, IsEmittableBody, FunctionsAreEmittable}
 use Rattle.c0_stmt_code.specs.TypedFunction.{FitsRegisters, FitRegisters, CanEmitBody, CanEmit}
-use Rattle.c0_stmt_code.proofs.PremisesFromBelow.{AllScalar}
-use Rattle.c0_stmt_code.proofs.PremisesOfExpressions.{functions_are}
+use Rattle.c0_stmt_code.proofs.PremisesOfFunctions.{AllScalar, functions_are}
 use Rattle.c0_stmt_code.proofs.TypedReads.{words_same}
 
 module _ (needs : NeedsAreFew) (env : Env) where

@@ -11,8 +11,7 @@ use Rattle.c0_meaning.specs.Numbered.{IsNumbered, an_assignment, a_call, an_obje
 use Rattle.c0_meaning.specs.Typed.{UnitsAreFaultless}
 use Rattle.c0_meaning.specs.Unit.{IsWellFormed}
 use Rattle.c0_stmt_code.specs.Emit.{IsEmittable, AreEmittable, IsEmittableBody, IsEmittableFunction}
-use Rattle.c0_stmt_code.proofs.PremisesFromBelow.{FunctionsAre}
-use Rattle.c0_stmt_code.proofs.PremisesOfExpressions.{functions_are}
+use Rattle.c0_stmt_code.proofs.PremisesOfFunctions.{FunctionsAre, functions_are}
 
 -- each argument needs no more than all of them
 args_fit : (es : List CExpr) → args_need es ≤ 12 → All (λ e. need e ≤ 12) es

@@ -1,16 +1,10 @@
-pub mod Ahead
 pub mod Behind
 pub mod Code
 pub mod Emit
-pub mod Frames
-pub mod Journey
 pub mod Lengths
 pub mod Live
 pub mod Ranges
 pub mod Rows
-pub mod Setup
-pub mod Standing
-pub mod Zeros
 pub mod TypedCode
 pub mod TypedLive
 pub mod TypedFunction

@@ -1,14 +1,18 @@
--- The code of two small functions, instruction by instruction.
-use Rattle.std.specs.Prelude.{◌≡◌, ℕ, Bool, true, false, List, [], ◌∷◌}
+-- The code of two small functions, instruction by instruction; what is live, and what is known, in small statements.
+use Rattle.std.specs.Prelude.{◌≡◌, ℕ, Bool, true, false, List, [], ◌∷◌, None}
 use Rattle.mips_table.specs.declared.inst.Inst.{Inst}
 use Rattle.mips_table.specs.declared.inst.Inst.TheVariants.{Addu, Addiu, Beq, Blez, Bne, J, Jal, Jr, Lw, Ori, Sltu, Sw}
 use Rattle.c0_tree.specs.declared.tree.Kind.TheVariants.{Local, Function}
 use Rattle.c0_tree.specs.declared.tree.BinaryOp.TheVariants.{Gt}
-use Rattle.c0_tree.specs.Tree.{CTy, int, array, num, var, binary, assign, call, choice, done, next, CDecl}
+use Rattle.c0_tree.specs.Tree.{CTy, int, array, num, var, binary, assign, call, choice, loop, done, next, CDecl}
 use Rattle.c0_meaning.specs.Bare.{z}
 use Rattle.c0_meaning.specs.Env.{Typed, typed_of}
+use Rattle.c0_typed.specs.Tree as typed
+use Rattle.c0_expr_code.specs.Facts.{found_sure, is_not_null, nothing_known, register_holding, start_facts}
 use Rattle.c0_expr_code.specs.Scope.{Scope}
 pub use Rattle.c0_expr_code.specs.Rows.{numbered_name}
+use Rattle.c0_stmt_code.specs.Behind.{behind}
+use Rattle.c0_stmt_code.specs.Live.{are_live}
 use Rattle.c0_stmt_code.specs.Code.{Links, statements_function}
 
 -- a local of a number, of a type
@@ -54,3 +58,14 @@ pub record AreCodes : Type 0 where
       ∷ Addiu 2 29 65496 ∷ Sw 0 2 0 ∷ Addiu 2 2 4 ∷ Bne 2 29 65533
       ∷ Jal 7 ∷ Sw 2 29 65492
       ∷ Lw 31 29 65480 ∷ Addiu 29 29 65480 ∷ Jr 31 ∷ []
+
+-- what is live: what the test of a loop reads, and what a branch of an `if` does, but not what is assigned first
+pub record AreLiveRows : Type 0 where
+  pub by_test : are_live (next (loop z (var (numbered_name Local 1)) done) done) 1 false ≡ true
+  pub by_branch : are_live (next (choice z (num z 0) done (next (assign z (var (numbered_name Local 0)) (var (numbered_name Local 1))) done)) done) 1 false ≡ true
+  pub assigned : are_live (next (assign z (var (numbered_name Local 1)) (num z 0)) done) 1 true ≡ false
+
+-- what is known: behind a call no parameter stands in its register, and a variable that was assigned may be null
+pub record AreBehindRows : Type 0 where
+  pub called : register_holding (behind false (typed.call Function 0 [] (typed.global 0)) (start_facts false 1)) 0 ≡ None
+  pub assigned : is_not_null (behind false (typed.assign (typed.local 1 1) (typed.constant 0)) (found_sure nothing_known 1)) 1 ≡ false

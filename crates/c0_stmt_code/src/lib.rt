@@ -1,4 +1,4 @@
-//! The code of statements, of calls and of functions, and that a run of it is what they mean.
+//! The code of statements, of calls and of functions, how long it is, and that it is in range.
 #![tactic(auto)]
 
 mod acts;

@@ -1,5 +1,4 @@
 pub mod OneFunctionMore
-pub mod FlatRun
 pub mod FunctionsInOrder
 pub mod PartsStand
 pub mod TreesOfFunctions

@@ -6,18 +6,16 @@ use Rattle.masm.specs.declared.registers.CodeAddresses.{CodeAddresses}
 use Rattle.masm.specs.CodeAddresses.{AreCodeAddresses}
 use Rattle.layer_map.specs.Map.{layer_words, primitives_at, exits_at}
 use Rattle.c0_tree.specs.declared.tree.Unit.{Unit as Source}
-use Rattle.c0_tree.specs.declared.primitive.Program.TheVariants.{User}
 use Rattle.c0_tree.specs.Primitives.{CPrimitive}
 use Rattle.c0_tree.specs.Tree.{CFunction, CUnit}
 use Rattle.c0_tree.specs.View.{unit_view}
 use Rattle.c0_meaning.specs.Limits.{all_nodes}
 use Rattle.c0_meaning.specs.Operators.{KernelFault}
-use Rattle.c0_meaning.specs.Unit.{IsCheckedAs, IsWellFormed}
+use Rattle.c0_meaning.specs.Unit.{IsWellFormed}
 use Rattle.c0_runtime.specs.declared.runtime.TheConstants.{NEW_OBJECT, MULTIPLY, DIVIDE, REMAINDER}
 use Rattle.c0_runtime.specs.Code.{startup_code, new_routine, multiply_code, divide_code, remainder_code, zero_exit}
 use Rattle.c0_expr_code.specs.Scope.{exit_number, exit_of, scope_of}
 use Rattle.c0_stmt_code.specs.Code.{links_of, function_code}
-use Rattle.c0_unit.specs.Flat.{RunsFlat}
 use Rattle.c0_unit.specs.Code.{fault_exits, primitive_entries, functions_at, routines_at, function_starts, code_words, globals_start, unit_code}
 
 -- the addresses of code in which functions have these addresses, the routines begin at this word, and the globals at this address
@@ -70,13 +68,6 @@ TreesHaveAddresses = (table : List CPrimitive) (u : CUnit) → IsWellFormed tabl
 
 abbrev pub UnitsHaveAddresses : Type 0
 UnitsHaveAddresses = (table : List CPrimitive) (s : Source) → IsWellFormed table (unit_view s) → (first : ℕ) → (p : CodeAddresses) × AreAddressesOf (unit_view s) first p × AreCodeAddresses p
-
--- A LAW: the code of each checked user program runs on a flat machine as the program means
-abbrev pub TreesRunFlat : Type 0
-TreesRunFlat = (u : CUnit) → IsCheckedAs User u → RunsFlat u
-
-abbrev pub ProgramsRunFlat : Type 0
-ProgramsRunFlat = (s : Source) → IsCheckedAs User (unit_view s) → RunsFlat (unit_view s)
 
 -- a law: a unit's code has at most 512 words, and 32 for each node
 abbrev pub UnitsAreShort : Type 0

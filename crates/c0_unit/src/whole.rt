@@ -5,11 +5,10 @@ ghost use Rattle.masm.specs.CodeAddresses.{AreCodeAddresses};
 ghost use Rattle.c0_tree.specs.View.{unit_view};
 ghost use Rattle.c0_meaning.specs.Limits.{all_nodes};
 ghost use Rattle.c0_unit.specs.Code.{program_words, unit_words, words_from};
-ghost use Rattle.c0_unit.specs.Flat.{RunsFlat};
 ghost use Rattle.c0_unit.specs.Laws.{AreAddressesOf};
 
 use crate::functions::emit_functions;
-use crate::laws::{programs_run_flat, units_are_short};
+use crate::laws::units_are_short;
 use crate::placing::placed_at;
 use crate::typed::TypedUnit;
 use c0_meaning::{Checked, Measured, UserChecked};
@@ -70,14 +69,10 @@ pub fn compile(alloc: Global, unit: &Checked) -> Result<Vec<u32>, AllocError>
 
 /// The code of a user program's unit, for the address 0x10000: at most 512 words and 32 for each node. The one error is want of memory.
 ///
-/// It calls `trap` as primitive 0, and leaves by the exits of a kernel. A flat machine that is loaded with it runs as the program means, within 30
-/// steps for each unit but those of a call of `trap`.
+/// It calls `trap` as primitive 0, and leaves by the exits of a kernel.
 pub fn compile_flat(alloc: Global, unit: &UserChecked) -> Result<Vec<u32>, AllocError>
-    ensures runs { RunsFlat (unit_view unit.now) }
     ensures words { IfOk result (λ v. v.items ≡ program_words (unit_view unit.now)) }
     ensures few { IfOk result (λ v. length v.items ≤ 512 + 32 * all_nodes (unit_view unit.now).functions) }
 {
-    programs_run_flat();
-    let _unit = unit.unit();
     compile_from(alloc, &unit.measured(), unit.first())
 }

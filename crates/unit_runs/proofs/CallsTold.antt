@@ -19,7 +19,7 @@ use Rattle.c0_meaning.specs.Sound.{shapes}
 use Rattle.c0_meaning.specs.Operators.{faulted, stuck}
 use Rattle.c0_meaning.specs.Operators as c0
 use Rattle.c0_meaning.specs.Execution as c0_run
-use Rattle.c0_expr_code.specs.Laws.{IsOpened}
+use Rattle.c0_expr_runs.specs.Laws.{IsOpened}
 use Rattle.layer_contract.specs.declared.entry.Entry.TheVariants.{Fault as Exit, Leave}
 use Rattle.layer_contract.specs.Layer.{layer_entry, Inside, Leaves, Exits, Rests}
 use Rattle.layer_contract.specs.declared.registers.TheConstants.{ANSWER}

@@ -30,12 +30,12 @@ use Rattle.c0_meaning.specs.Running.{begin}
 use Rattle.c0_meaning.specs.TypedState.{StoreTyping, types_of, AllFit, store_typing, IsTypedWith, IsTypedState}
 use Rattle.c0_runtime.specs.Code.{startup_code, behind_first}
 use Rattle.c0_runtime.specs.Laws.{IsEntered, StackIs, EntryRuns, with_half}
-use Rattle.c0_expr_code.specs.Laws.{IsOpened}
-use Rattle.c0_expr_code.specs.Bases.{Bases}
+use Rattle.c0_expr_runs.specs.Laws.{IsOpened}
+use Rattle.c0_expr_runs.specs.Bases.{Bases}
 use Rattle.c0_stmt_code.specs.Code.{links_of}
-use Rattle.c0_stmt_code.specs.Setup.{Setup}
-use Rattle.c0_stmt_code.specs.Standing as code_run
-use Rattle.c0_stmt_code.specs.Standing.{bases, Simulated, StepsRun}
+use Rattle.c0_runs.specs.Setup.{Setup}
+use Rattle.c0_runs.specs.Standing as code_run
+use Rattle.c0_runs.specs.Standing.{bases, Simulated, StepsRun}
 use Rattle.layer_contract.specs.Layer.{Linked, DispatchCalled}
 use Rattle.cvm_model.specs.Kernel.{Core, Changes, flat}
 use Rattle.cvm_model.specs.KernelMeaning.{Machines, machines_of}

@@ -24,11 +24,11 @@ use Rattle.c0_meaning.specs.Value.{Value, int}
 use Rattle.c0_meaning.specs.World.{Cost, total, Configuration, journal_so_far}
 use Rattle.c0_meaning.specs.TypedState.{IsTypedWith}
 use Rattle.c0_meaning.specs.Execution as c0_run
-use Rattle.c0_expr_code.specs.Laws.{IsOpened}
-use Rattle.c0_expr_code.specs.Bases.{Bases, word_of_scalar}
-use Rattle.c0_stmt_code.specs.Setup.{Setup}
-use Rattle.c0_stmt_code.specs.Standing as code_run
-use Rattle.c0_stmt_code.specs.Standing.{bases, unit_scope, Ended, AtExit, StepsRun}
+use Rattle.c0_expr_runs.specs.Laws.{IsOpened}
+use Rattle.c0_expr_runs.specs.Bases.{Bases, word_of_scalar}
+use Rattle.c0_runs.specs.Setup.{Setup}
+use Rattle.c0_runs.specs.Standing as code_run
+use Rattle.c0_runs.specs.Standing.{bases, unit_scope, Ended, AtExit, StepsRun}
 use Rattle.layer_contract.specs.declared.entry.Entry.{Entry}
 use Rattle.layer_contract.specs.declared.entry.Entry.TheVariants.{Fault as Exit, Leave}
 use Rattle.layer_contract.specs.declared.registers.TheConstants.{ANSWER}

@@ -13,8 +13,8 @@ use Rattle.c0_meaning.specs.Addresses.{nth_type, words_to, words_to_part}
 use Rattle.c0_meaning.specs.Value.{Location, Value, int, bool, null, at, group, Values, empty, part}
 use Rattle.c0_meaning.specs.TypedState.{StoreTyping, types_of, PathLeads, LeadsFrom, PointsTo, Fits, AllFit, AreParts}
 use Rattle.c0_expr_code.specs.Scope.{Scope}
-use Rattle.c0_expr_code.specs.Laws.{IsOpened}
-use Rattle.c0_expr_code.specs.Bases.{Bases, words_of_all, location_word, Held, AllHeld, RegionHeld}
+use Rattle.c0_expr_runs.specs.Laws.{IsOpened}
+use Rattle.c0_expr_runs.specs.Bases.{Bases, words_of_all, location_word, Held, AllHeld, RegionHeld}
 use Rattle.cvm_model.specs.Kernel.{part_of_value, value_words_before, part_offset, flat, flats}
 use Rattle.unit_runs.specs.Held.{HoldsAt}
 

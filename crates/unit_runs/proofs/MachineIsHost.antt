@@ -18,8 +18,8 @@ use Rattle.c0_meaning.specs.Running.{Work}
 use Rattle.c0_meaning.specs.Execution.{Outcome, Done, Failed, NotYet, run_within}
 use Rattle.c0_meaning.specs.Value.{Values}
 use Rattle.c0_stmt_code.specs.Code.{links_of}
-use Rattle.c0_stmt_code.specs.Setup.{PrimitiveIsCalled}
-use Rattle.c0_stmt_code.specs.Standing.{Simulated}
+use Rattle.c0_runs.specs.Setup.{PrimitiveIsCalled}
+use Rattle.c0_runs.specs.Standing.{Simulated}
 use Rattle.c0_runs.specs.Runs.{Price, PrimitivePassed, Hosts, RunTo as HostRun, RunsFollow}
 use Rattle.cvm_model.specs.Kernel.{Changes}
 use Rattle.cvm_model.specs.KernelMeaning.{Machines, kernel_primitive}

@@ -19,8 +19,8 @@ use Rattle.c0_meaning.specs.Value.{Values}
 use Rattle.c0_tree.specs.Primitives.{CPrimitive, kernel_primitives}
 use Rattle.mips_table.specs.Flat.{Flat}
 use Rattle.c0_stmt_code.specs.Code.{links_of}
-use Rattle.c0_stmt_code.specs.Setup.{Setup, PrimitiveIsCalled}
-use Rattle.c0_stmt_code.specs.Standing.{Simulated, Ended, AtExit}
+use Rattle.c0_runs.specs.Setup.{Setup, PrimitiveIsCalled}
+use Rattle.c0_runs.specs.Standing.{Simulated, Ended, AtExit}
 use Rattle.cvm_model.specs.Kernel.{Changes}
 use Rattle.cvm_model.specs.KernelMeaning.{Machines, kernel_primitive}
 use Rattle.cvm_model.specs.Cvm.{run_steps}

@@ -21,7 +21,7 @@ use Rattle.c0_meaning.specs.Value.{group, Values}
 use Rattle.c0_meaning.specs.World.{call_cost}
 use Rattle.c0_meaning.specs.TypedState.{IsScalar}
 use Rattle.c0_stmt_code.specs.Code.{links_of}
-use Rattle.c0_stmt_code.specs.Setup.{scalar_word, IsKept, HasReturned, PrimitiveIsCalled}
+use Rattle.c0_runs.specs.Setup.{scalar_word, IsKept, HasReturned, PrimitiveIsCalled}
 use Rattle.layer_contract.specs.declared.entry.Entry.{Entry}
 use Rattle.layer_contract.specs.declared.entry.Entry.TheVariants.{Dispatch, Primitive, Fault as Exit, Leave}
 use Rattle.layer_contract.specs.Layer.{Inside, IsEntry, BusyWithin, PrimitiveCalled, Returned, ComesBack, PrimitivesAnswer}

@@ -8,9 +8,9 @@ use Rattle.c0_meaning.specs.Sound.{shapes}
 use Rattle.c0_meaning.specs.State.{C0State}
 use Rattle.c0_meaning.specs.Value.{Region, globals, heap, locals, Location}
 use Rattle.c0_meaning.specs.TypedState.{types_of, PointsTo, store_typing, IsTypedWith}
-use Rattle.c0_expr_code.specs.Laws.{IsOpened}
-use Rattle.c0_expr_code.specs.Bases.{Bases, words_of_all, location_word}
-use Rattle.c0_stmt_code.specs.Standing.{unit_scope}
+use Rattle.c0_expr_runs.specs.Laws.{IsOpened}
+use Rattle.c0_expr_runs.specs.Bases.{Bases, words_of_all, location_word}
+use Rattle.c0_runs.specs.Standing.{unit_scope}
 use Rattle.layer_map.specs.Map.{Map, globals_at, heap_at}
 use Rattle.cvm_model.specs.Stands.{address_of}
 use Rattle.unit_runs.specs.Held.{AreOnMap, IsHeldFlat, HeldIsFlat}

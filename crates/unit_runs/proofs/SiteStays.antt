@@ -15,7 +15,7 @@ use Rattle.c0_tree.specs.Tree.{CUnit}
 use Rattle.c0_runtime.specs.Code as runtime
 use Rattle.c0_expr_code.specs.Scope.{scope_of}
 use Rattle.c0_stmt_code.specs.Code.{links_of, function_code}
-use Rattle.c0_stmt_code.specs.Setup.{Setup, UnitData, IsOurs}
+use Rattle.c0_runs.specs.Setup.{Setup, UnitData, IsOurs}
 use Rattle.cvm_model.specs.Kernel.{Changes}
 use Rattle.cvm_model.specs.KernelMeaning.{Machines, setting_of}
 use Rattle.cvm_model.specs.Paged.{pages_by}

@@ -10,7 +10,7 @@ use Rattle.c0_tree.specs.declared.primitive.Scalar.TheVariants as scalar
 use Rattle.c0_meaning.specs.RunLaws.{all_scalars}
 use Rattle.c0_meaning.specs.Value.{Location, Value, int, bool, null, at, group, Values, empty, part}
 use Rattle.c0_meaning.specs.TypedState.{IsScalar, AreScalars}
-use Rattle.c0_stmt_code.specs.Setup.{ArePassed, scalar_word}
+use Rattle.c0_runs.specs.Setup.{ArePassed, scalar_word}
 use Rattle.cvm_model.specs.Kernel.{flat, flats}
 use Rattle.cvm_model.specs.KernelMeaning.{ints_of}
 use Rattle.layer_contract.specs.Layer.{AreArguments}

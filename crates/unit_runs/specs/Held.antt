@@ -7,9 +7,9 @@ use Rattle.c0_meaning.specs.RunLaws.{scalars}
 use Rattle.c0_meaning.specs.Sound.{shapes}
 use Rattle.c0_meaning.specs.State.{C0State}
 use Rattle.c0_meaning.specs.TypedState.{types_of, IsTypedWith}
-use Rattle.c0_expr_code.specs.Laws.{IsOpened}
-use Rattle.c0_expr_code.specs.Bases.{Bases, words_of_all, RegionHeld}
-use Rattle.c0_stmt_code.specs.Standing.{unit_scope}
+use Rattle.c0_expr_runs.specs.Laws.{IsOpened}
+use Rattle.c0_expr_runs.specs.Bases.{Bases, words_of_all, RegionHeld}
+use Rattle.c0_runs.specs.Standing.{unit_scope}
 use Rattle.layer_map.specs.Map.{Map, globals_at, heap_at}
 use Rattle.cvm_model.specs.Kernel.{flat}
 use Rattle.cvm_model.specs.Stands.{address_of}

@@ -8,7 +8,7 @@ ghost use Rattle.unit_runs.specs.Host.{Fixed, HasCome, TellsCalls};
 ghost use Rattle.unit_runs.specs.Outer.{Outer};
 ghost use Rattle.unit_runs.specs.Runs.{CompiledUnitsCallsFollow, CompiledUnitsRun, UnitsCallsFollow, UnitsRunOverLayers};
 
-use c0_expr_code::laws::areas_hold;
+use c0_expr_runs::laws::areas_hold;
 use c0_meaning::laws::types_are_equal_as_written;
 use c0_meaning::run_laws::kernels_have_a_dispatch;
 use c0_runs::laws::{Host, runs_follow};

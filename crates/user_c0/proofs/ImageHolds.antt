@@ -7,7 +7,7 @@ use Rattle.masm.specs.declared.registers.CodeAddresses.{CodeAddresses}
 use Rattle.c0_tree.specs.declared.primitive.Program.TheVariants.{User}
 use Rattle.c0_tree.specs.Tree.{CUnit}
 use Rattle.c0_meaning.specs.Limits.{first_number}
-use Rattle.c0_unit.specs.Flat.{HoldsProgram}
+use Rattle.user_c0.specs.Flat.{HoldsProgram}
 use Rattle.c0_unit.specs.Laws.{UnitStands}
 use Rattle.user_c0.specs.Image.{map_of_image, rooms_of, program_code, program_of}
 use Rattle.user_c0.specs.Program.{MAX_IMAGE}

@@ -10,10 +10,10 @@ use Rattle.mips_table.specs.Borders.{FlatCalls}
 use Rattle.masm.specs.Laws.{RunsCompose, JumpsLead}
 use Rattle.c0_meaning.specs.Operators.{KernelFault, NullUse, Bounds, DivZero, StackOut}
 use Rattle.c0_expr_code.specs.Scope.{exit_of}
-use Rattle.c0_stmt_code.specs.Setup.{Setup}
+use Rattle.c0_runs.specs.Setup.{Setup}
 use Rattle.user_c0.specs.Events.{SYSCALL, trapping}
 use Rattle.user_c0.specs.Served.{Served, served, asked_by, other_by, others_in}
-use Rattle.c0_unit.specs.Flat.{Outer}
+use Rattle.user_c0.specs.Flat.{Outer}
 use Rattle.user_c0.specs.Host.{Here}
 use Rattle.user_c0.specs.Program.{fault_call}
 use Rattle.user_c0.specs.Stands.{LeavesTo}

@@ -23,12 +23,12 @@ use Rattle.user_c0.specs.Image.{ROOM}
 use Rattle.c0_meaning.specs.Execution.{Outcome, Done, Failed, NotYet}
 use Rattle.c0_meaning.specs.RunLaws.{HasEnded, StaysWithin, cost_of}
 use Rattle.c0_meaning.specs.UserProgram.{not_yet, Seen, up_to, outcome_seen, prog, trap}
-use Rattle.c0_stmt_code.specs.Setup.{Setup}
+use Rattle.c0_runs.specs.Setup.{Setup}
 use Rattle.c0_runs.specs.Runs.{RunTo, Moment, WithinPrice}
 use Rattle.cvm_model.specs.Journal.{replay, ReplayJoins}
 use Rattle.user_c0.specs.Events.{SYSCALL, Event, step, call, other, entries_of as event_entries, journal_of, AreProper, Trapping, trapping, replies, call_count, others, untrapped, answer_of, answers}
 use Rattle.user_c0.specs.Served.{Served, serving, is_call, served, asked_by, asked, other_by, others_in, IsServed}
-use Rattle.c0_unit.specs.Flat.{Outer}
+use Rattle.user_c0.specs.Flat.{Outer}
 use Rattle.user_c0.specs.Host.{Here, Told, TRAP_PRICE}
 use Rattle.user_c0.specs.Program.{EndsBy, steps_of, FollowsMain}
 use Rattle.user_c0.specs.Stands.{LeavesTo, main_outcome, RunsTo}

@@ -16,12 +16,12 @@ use Rattle.c0_meaning.specs.World.{Called as Answer, PrimitiveMeaning, call_cost
 use Rattle.c0_meaning.specs.UserProgram.{user_primitives, trap}
 use Rattle.c0_meaning.specs.TypedState.{AreScalars, IsScalar}
 use Rattle.c0_stmt_code.specs.Code.{links_of}
-use Rattle.c0_stmt_code.specs.Setup.{Setup, PrimitiveIsCalled, scalar_word}
+use Rattle.c0_runs.specs.Setup.{Setup, PrimitiveIsCalled, scalar_word}
 use Rattle.c0_runs.specs.Runs.{PrimitivePassed, Hosts, price_of}
 use Rattle.user_c0.specs.Image.{stub_code}
 use Rattle.user_c0.specs.Events.{answer_of}
 use Rattle.user_c0.specs.Served.{Served, served}
-use Rattle.c0_unit.specs.Flat.{Outer}
+use Rattle.user_c0.specs.Flat.{Outer}
 use Rattle.user_c0.specs.Host.{Here, Told, TRAP_PRICE}
 use Rattle.user_c0.proofs.ServedGoesOn.{goes_on, tells_on}
 use Rattle.user_c0.proofs.StubTraps.{answers}

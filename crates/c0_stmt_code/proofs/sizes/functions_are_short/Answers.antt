@@ -1,6 +1,6 @@
 -- By the lengths of the parts.
 use Rattle.c0_stmt_code.proofs.FunctionLengths.{function_short}
-use Rattle.c0_stmt_code.proofs.PremisesOfLowerCrates.{lengths_fit}
+use Rattle.c0_stmt_code.proofs.PremisesOfFunctions.{lengths_fit}
 use Rattle.c0_stmt_code.proofs.sizes.functions_are_short.Goals as goal
 
 pub returns : goal.returns

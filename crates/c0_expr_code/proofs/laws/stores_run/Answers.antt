@@ -1,5 +1,0 @@
-use Rattle.c0_expr_code.proofs.WordStored.{stores}
-use Rattle.c0_expr_code.proofs.laws.stores_run.Goals as goal
-
-pub returns : goal.returns
-returns c = λ w f. stores w (record { sound = f; straight = c.straight_code_runs.ensures w f; leads = c.jumps_lead.ensures w f })

@@ -1,0 +1,4 @@
+pub mod Bases
+pub mod Relation
+pub mod Laws
+pub mod FactLaws
