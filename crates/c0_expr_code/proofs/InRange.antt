@@ -219,7 +219,7 @@ sums None (Some g) a b na nb f e h k = values (λ d r. one_code (λ q. g d q) b 
 sums None None a b na nb f e h k = values (λ d r. two_code (λ q t. Addu d q t ∷ []) a b r) (max na (nb + 1)) (let s = h.some in omega (arith, s)) (λ d r l le. two_fine (λ q t. Addu d q t ∷ []) a b na nb r h k (omega (arith, le)) (omega (arith, le)) (λ q t lq lt. ((l, lq, lt), tt)))
 
 module _ (sc : Scope) (exits : (f : KernelFault) → sc.exit f < 2 ^ 26) where
-  divisor_fine : (sure : Bool) (t : ℕ) → t < 32 → Ranged (divisor_code sc sure t)
+  divisor_fine : (untested : Bool) (t : ℕ) → t < 32 → Ranged (divisor_code sc untested t)
   divisor_fine true t h = tt
   divisor_fine false t h = ((h, omega arith, omega arith), (exits DivZero, tt))
 

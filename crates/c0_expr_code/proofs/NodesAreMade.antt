@@ -127,8 +127,9 @@ greater_same : (a b : Made) (o : Option ℕ) → operator_made (immediate_of Gt 
 greater_same a b None = refl
 greater_same a b (Some k) = refl
 
-division_same : (sc : Scope) (fs : Facts) (takes : ℕ → Inst) (a b : Made) (sure : Bool) (d r : ℕ)
-    → two_code (λ q t. divisor_test (frame_setting sc fs) sure t ++ (Divide q t ∷ takes d ∷ [])) a b r ≡ two_code (λ q t. divisor_code sc sure t ++ (Divide q t ∷ takes d ∷ [])) a b r
+division_same : (sc : Scope) (fs : Facts) (takes : ℕ → Inst) (a b : Made) (untested : Bool) (d r : ℕ)
+    → two_code (λ q t. divisor_test (frame_setting sc fs) untested t ++ (Divide q t ∷ takes d ∷ [])) a b r
+    ≡ two_code (λ q t. divisor_code sc untested t ++ (Divide q t ∷ takes d ∷ [])) a b r
 division_same sc fs takes a b true d r = refl
 division_same sc fs takes a b false d r = refl
 

@@ -211,7 +211,7 @@ module _ (sc : Scope) where
   sums None (Some i) a b j k right left h x = values (λ d r. one_code (λ q. i d q) b r) (j + k + 1) (omega arith) (λ d r. let y = one_length (λ q. i d q) b k r (λ q. let z = left d q in omega (arith, z)) x in omega (arith, y))
   sums None None a b j k right left h x = values (λ d r. two_code (λ q t. Addu d q t ∷ []) a b r) (j + k + 1) (omega arith) (λ d r. two_length (λ q t. Addu d q t ∷ []) a b j k r (λ q t. omega arith) h x)
 
-  divisor_length : (sure : Bool) (t : ℕ) → length (divisor_code sc sure t) ≤ 2
+  divisor_length : (untested : Bool) (t : ℕ) → length (divisor_code sc untested t) ≤ 2
   divisor_length true t = omega arith
   divisor_length false t = omega arith
 

@@ -118,8 +118,14 @@ at_place place = record { value = λ d r. load_code d r (place r); place = place
 
 -- a constant word, which a number may be written for
 abbrev pub constant : ℕ → Option ℕ → Made
-constant n literal =
-    record { value = λ d r. constant_code d n; place = no_address; stands = if n == 0 then Some 0 else None; register = None; literal = literal; known = Some n }
+constant n literal = record {
+  value = λ d r. constant_code d n;
+  place = no_address;
+  stands = if n == 0 then Some 0 else None;
+  register = None;
+  literal = literal;
+  known = Some n;
+}
 
 -- a value that is no place
 abbrev pub only_value : (ℕ → ℕ → List Inst) → Made
@@ -302,7 +308,7 @@ is_never_zero None = false
 is_never_zero (Some zero) = false
 is_never_zero (Some (suc n)) = true
 
--- the test of a divisor, unless it is sure
+-- the test of a divisor, unless it is known to be other than 0
 abbrev pub divisor_code : Scope → Bool → ℕ → List Inst
 divisor_code sc true t = []
 divisor_code sc false t = Bne t 0 1 ∷ J (sc.exit DivZero) ∷ []

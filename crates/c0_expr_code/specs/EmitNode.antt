@@ -38,9 +38,9 @@ sides_nodes s o a b d r = two_code (λ q t. operator_code o d q t) (node_in s a)
 abbrev pub plain_nodes : CodeSetting → BinaryOp → (left right : TypedExpr) → Made
 plain_nodes s o a b = operator_made (immediate_of o (node_in s b).known) o (node_in s a) (node_in s b)
 
--- the quotient, or else the remainder, of two registers, of which the right one is tested unless it is sure
-abbrev pub quotient_code : FrameSetting → (is_quotient is_sure : Bool) → (d q t : ℕ) → List Inst
-quotient_code st b sure d q t = divisor_test st sure t ++ (Div q t ∷ taken_inst b d ∷ [])
+-- the quotient, or else the remainder, of two registers, of which the right one is tested unless it is known to be other than 0
+abbrev pub quotient_code : FrameSetting → (is_quotient untested : Bool) → (d q t : ℕ) → List Inst
+quotient_code st b untested d q t = divisor_test st untested t ++ (Div q t ∷ taken_inst b d ∷ [])
 
 -- that of two expressions
 abbrev pub quotient_nodes : CodeSetting → (is_quotient : Bool) → (left right : TypedExpr) → (d r : ℕ) → List Inst

@@ -118,9 +118,12 @@ tells_difference (Order o) s = false
 tells_difference Equal s = not s
 tells_difference Different s = s
 
--- once an operator on two registers came out so: where its sides differ and one is null the other isn't
+-- Once an operator on two registers came out so: where its sides differ and the right one is written as `null`, the variable that the left one is isn't
+-- null. A `null` at the left tells nothing.
 abbrev pub facts_compared : Plain → (a b : TExpr) → Bool → Facts → Facts
-facts_compared o a b s f = if tells_difference o s && is_zero b then with_sure (facts_followed b (facts_followed a f)) (variable_in a) else facts_followed b (facts_followed a f)
+facts_compared o a b s f =
+    if tells_difference o s && is_zero b then with_sure (facts_followed b (facts_followed a f)) (variable_in a)
+    else facts_followed b (facts_followed a f)
 
 -- once a test came out so
 abbrev pub facts_told : TExpr → Bool → Facts → Facts
@@ -141,7 +144,7 @@ pub record HaveSameRegisters (f g : Facts) : Type 0 where
   pub params : f.params ≡ g.params
   pub answer : f.answer ≡ g.answer
 
--- no variable is known to stand in a register
+-- no variable is known to stand in a register, whatever else that has
 pub record IsFreeRegister (f : Facts) (d : ℕ) : Type 0 where
   pub params : (n : ℕ) → IsTrue (holds_param f n) → d ≢ ARGUMENTS + n
   pub answer : (n : ℕ) → IsTrue (holds_answer f.answer n) → d ≢ ANSWER

@@ -59,7 +59,7 @@ plain_node (Order o) a b = operator_made (immediate_of (plain_of (Order o)) b.kn
 plain_node Equal a b = operator_made (immediate_of (plain_of Equal) b.known) (plain_of Equal) a b
 plain_node Different a b = operator_made (immediate_of (plain_of Different) b.known) (plain_of Different) a b
 
--- the test of a divisor, unless it is sure
+-- the test of a divisor, unless it is known to be other than 0
 abbrev pub divisor_test : FrameSetting → Bool → ℕ → List Inst
 divisor_test st true t = []
 divisor_test st false t = Bne t 0 1 ∷ J (st.exit DivZero) ∷ []

@@ -141,7 +141,7 @@ abbrev pub n_next : CExpr
 n_next = arrow z n (numbered_name Field 1)
 
 -- What is known of variables: a parameter that its register still has, the variable that has an answer, and a pointer that isn't null: by what was
--- found before, but not by a side that may be skipped, and by the left side of `&&` and of `||`.
+-- found before, but not by a side that may be skipped, by what the left side of `&&` and of `||` tells, and by what it follows.
 pub record AreFactRows : Type 0 where
   pub param : known_value (start_facts false 2) (binary z Add i (number 1)) 20 8 ≡ Addiu 20 20 1 ∷ []
   pub behind : known_value (start_facts false 1) n 8 8 ≡ Lw 8 29 65532 ∷ []
@@ -154,5 +154,7 @@ pub record AreFactRows : Type 0 where
       ≡ Lw 8 29 65532 ∷ Bne 8 0 1 ∷ J 100 ∷ Lw 8 8 4 ∷ []
   pub both : known_test nothing_known (binary z And (binary z Ne n (null z)) (binary z Ne n_next (null z))) false 7 8
       ≡ Lw 8 29 65532 ∷ Beq 8 0 10 ∷ Lw 8 29 65532 ∷ Lw 8 8 4 ∷ Beq 8 0 7 ∷ []
+  pub again : known_test nothing_known (binary z And (binary z Ne n_next (null z)) (binary z Ne n_next (null z))) false 7 8
+      ≡ Lw 8 29 65532 ∷ Bne 8 0 1 ∷ J 100 ∷ Lw 8 8 4 ∷ Beq 8 0 10 ∷ Lw 8 29 65532 ∷ Lw 8 8 4 ∷ Beq 8 0 7 ∷ []
   pub either : known_test nothing_known (binary z Or (binary z Eq n (null z)) (binary z Eq n_next (null z))) true 7 8
       ≡ Lw 8 29 65532 ∷ Beq 8 0 10 ∷ Lw 8 29 65532 ∷ Lw 8 8 4 ∷ Beq 8 0 7 ∷ []

@@ -13,7 +13,12 @@ use Rattle.c0_expr_code.specs.FrameSetting.{FrameSetting}
 
 -- the setting
 abbrev pub setting_in : CodeSetting → FrameSetting
-setting_in s = record { in_registers = s.in_registers; frame = s.frame; exit = λ fault. slice_index (exits_of s.exits) (exit_number fault) / 4; facts = s.facts }
+setting_in s = record {
+  in_registers = s.in_registers;
+  frame = s.frame;
+  exit = λ fault. slice_index (exits_of s.exits) (exit_number fault) / 4;
+  facts = s.facts;
+}
 
 -- the code, place and constant of a typed expression
 abbrev pub node_in : CodeSetting → TypedExpr → Made

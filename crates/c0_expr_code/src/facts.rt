@@ -10,7 +10,7 @@ use masm::registers::{ANSWER, ARGUMENTS};
 /// What is known of a function's variables at a place of its code.
 #[derive(Clone, Copy, Debug)]
 pub struct Facts {
-    /// Which parameters in the frame stand in their argument registers too.
+    /// Which parameters in the frame stand in their argument registers too, 20 to 27 for the numbers 0 to 7.
     pub params: [bool; 8],
     /// The variable in the frame whose word register 2 has.
     pub answer: Option<u32>,
@@ -77,7 +77,7 @@ fn tells_difference(op: Plain, outcome: bool) -> bool
 }
 
 impl Facts {
-    /// What is known at a function's begin: its parameters came in registers, where it doesn't keep its variables there.
+    /// What is known at a function's begin: its parameters came in registers 20 to 27, where it doesn't keep its variables there.
     pub fn at_start(in_registers: bool, params: u32) -> Facts
         ensures { result ≡ spec.start_facts in_registers params }
     {
@@ -115,7 +115,7 @@ impl Facts {
         number < 8 && self.params[number as usize]
     }
 
-    /// The register that has the word of a variable in the frame.
+    /// The register that has the word of a variable in the frame: 2, or one from 20 to 27.
     pub fn register_holding(&self, number: u32) -> Option<u32>
         ensures value { result ≡ spec.register_holding self.now number }
         ensures small { IfSome result (λ q. q < 32) }
@@ -129,14 +129,14 @@ impl Facts {
         None
     }
 
-    // Whether the variable of this number surely isn't null.
+    // Whether the variable of this number surely isn't null; known of the numbers 0 to 63.
     fn is_sure(&self, number: u32) -> bool
         ensures { result ≡ spec.is_not_null self.now number }
     {
         number < 64 && self.sure[number as usize]
     }
 
-    /// Whether a pointer is a variable that surely isn't null.
+    /// Whether a pointer is a variable, one of the first 64, that surely isn't null.
     pub fn is_sure_pointer(&self, pointer: &TypedExpr) -> bool
         ensures { result ≡ spec.is_sure_pointer self.now (typed_expr_view pointer.now) }
     {
@@ -146,8 +146,8 @@ impl Facts {
         }
     }
 
-    // With a variable sure or not.
-    fn with_sure(self, number: u32, sure: bool) -> Facts
+    // With a variable sure or not, if it is one of those of which this is known, the numbers 0 to 63.
+    fn marked(self, number: u32, sure: bool) -> Facts
         ensures { result ≡ record { params = self.params; answer = self.answer; sure = slice_set self.sure number sure } }
     {
         let mut facts = self;
@@ -157,7 +157,7 @@ impl Facts {
         facts
     }
 
-    /// Once the argument of this number went to its register.
+    /// Once the argument of this number went to its register, from 20 on: nothing is known of the registers behind 27.
     pub fn overwritten(self, number: u32) -> Facts
         ensures { result ≡ spec.overwritten self number }
     {
@@ -168,18 +168,18 @@ impl Facts {
         facts
     }
 
-    /// Once the variable of this number was assigned to.
+    /// Once the variable of this number was assigned to: one of 0 to 7 isn't in its register any more, and one of 0 to 63 may be null.
     pub fn assigned_to(self, number: u32) -> Facts
         ensures { result ≡ spec.assigned_to self number }
     {
-        let mut facts = self.overwritten(number).with_sure(number, false);
+        let mut facts = self.overwritten(number).marked(number, false);
         if self.holds_answer(number) {
             facts.answer = None;
         }
         facts
     }
 
-    /// Once a call was made.
+    /// Once a call was made: registers 2 and 20 to 27 are changed.
     pub fn called(self) -> Facts
         ensures { result ≡ spec.facts_called self }
     {
@@ -190,7 +190,7 @@ impl Facts {
         facts
     }
 
-    /// Once an object was made.
+    /// Once an object was made, whose address is in register 2.
     pub fn renewed(self) -> Facts
         ensures { result ≡ spec.renewed self }
     {
@@ -199,7 +199,7 @@ impl Facts {
         facts
     }
 
-    /// Once the answer went to the variable of this number.
+    /// Once the answer, in register 2, went to the variable of this number.
     pub fn answered(self, number: u32) -> Facts
         ensures { result ≡ spec.facts_answered self number }
     {
@@ -209,11 +209,11 @@ impl Facts {
     }
 
     // With the variable that an expression is sure, if it is one.
-    fn found_sure(self, expr: &TypedExpr) -> Facts
+    fn with_sure(self, expr: &TypedExpr) -> Facts
         ensures { result ≡ spec.with_sure self (spec.variable_in (typed_expr_view expr.now)) }
     {
         match variable(expr) {
-            Some(number) => self.with_sure(number, true),
+            Some(number) => self.marked(number, true),
             None => self,
         }
     }
@@ -227,7 +227,7 @@ impl Facts {
             TypedExpr::Local(_, _) => self,
             TypedExpr::Part(place, _) => self.followed(place),
             TypedExpr::Element(place, index, _) => self.followed(place).followed(index),
-            TypedExpr::Target(pointer) => self.followed(pointer).found_sure(pointer),
+            TypedExpr::Target(pointer) => self.followed(pointer).with_sure(pointer),
             TypedExpr::Constant(_) => self,
             TypedExpr::Address(place) => self.followed(place),
             TypedExpr::Negative(operand) => self.followed(operand),
@@ -246,7 +246,7 @@ impl Facts {
     {
         let facts = self.followed(left).followed(right);
         if tells_difference(op, outcome) && is_zero(right) {
-            facts.found_sure(left)
+            facts.with_sure(left)
         } else {
             facts
         }

@@ -7,7 +7,7 @@ ghost use Rattle.c0_typed.specs.declared.sorted.Plain.TheVariants.{Sum};
 ghost use Rattle.c0_typed.specs.Size.{typed_need};
 ghost use Rattle.c0_typed.specs.Sorted.{plain_of};
 ghost use Rattle.c0_typed.specs.View.{typed_expr_view};
-ghost use Rattle.c0_expr_code.specs.Code.{AddressingMode, immediate, access_code, is_never_zero, null_test, one_code, operand_code, operand_register, to_code};
+ghost use Rattle.c0_expr_code.specs.Code.{AddressingMode, immediate, access_code, is_never_zero as never_zero, null_test, one_code, operand_code, operand_register, to_code};
 ghost use Rattle.c0_expr_code.specs.Emit.{Appends, IsSameAddress, access_inst, held_code, is_immediate, logic_skip, right_code};
 ghost use Rattle.c0_expr_code.specs.EmitNode.{held_node, logic_nodes, plain_nodes, quotient_nodes, side_node, sides_nodes, target_node, tested_node};
 ghost use Rattle.c0_expr_code.specs.Node.{plain_node};
@@ -27,8 +27,8 @@ use mips_table::Inst;
 use std::alloc::AllocError;
 
 // Whether a known word is other than 0.
-fn is_sure(known: Option<u32>) -> bool
-    ensures { result ≡ is_never_zero known }
+fn is_never_zero(known: Option<u32>) -> bool
+    ensures { result ≡ never_zero known }
 {
     match known {
         Some(word) => word != 0,
@@ -76,7 +76,8 @@ fn emit_to(code: &mut Vec<u32>, target: u32, source: u32) -> Result<(), AllocErr
     )
 }
 
-/// Appends the code of an operand, with free registers from `free` on, and answers the register where it stands.
+/// Appends the code of an operand, with free registers from `free` to 19, and answers the register where it stands: `free` itself, or where it stands
+/// with no code.
 #[cycle(node)]
 pub fn emit_operand(
     setting: &CodeSetting,
@@ -96,7 +97,7 @@ pub fn emit_operand(
     Ok(free)
 }
 
-/// Appends the code of a place, with free registers from `free` on, and answers where the place is then; no code and no place where the
+/// Appends the code of a place, with free registers from `free` to 19, and answers where the place is then; no code and no place where the
 /// expression is none.
 #[cycle(node)]
 pub fn emit_place(
@@ -200,7 +201,7 @@ fn emit_indexed(
     })
 }
 
-/// Appends the code of a value, into register `target`, with free registers from `free` on.
+/// Appends the code of a value, into register `target`, with free registers from `free` to 19.
 #[cycle(node)]
 pub fn emit_value(
     setting: &CodeSetting,
@@ -490,8 +491,8 @@ fn emit_quotient(
 {
     let first = emit_operand(setting, left, free, code)?;
     let second = emit_operand(setting, right, free + 1, code)?;
-    let sure = is_sure(known_word(right));
-    emit_division(code, setting, is_quotient, sure, target, first, second)
+    let untested = is_never_zero(known_word(right));
+    emit_division(code, setting, is_quotient, untested, target, first, second)
 }
 
 // Appends the branch over the right side of `||`, or else of `&&`, and that side; the branch gets its distance when the side is there.

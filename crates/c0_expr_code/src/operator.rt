@@ -334,13 +334,13 @@ fn taken(is_quotient: bool, target: u32) -> Inst
 fn emit_divisor(
     code: &mut Vec<u32>,
     setting: &CodeSetting,
-    is_sure: bool,
+    untested: bool,
     divisor: u32,
 ) -> Result<(), AllocError>
     requires { divisor < 32 }
-    ensures { Appends code.old.items code.new.items (divisor_test (setting_in setting.now) is_sure divisor) result }
+    ensures { Appends code.old.items code.new.items (divisor_test (setting_in setting.now) untested divisor) result }
 {
-    if is_sure {
+    if untested {
         Ok(())
     } else {
         emit_guard(code, divisor, setting.exits.zero_division)
@@ -352,7 +352,7 @@ pub fn emit_division(
     code: &mut Vec<u32>,
     setting: &CodeSetting,
     is_quotient: bool,
-    is_sure: bool,
+    untested: bool,
     target: u32,
     left: u32,
     right: u32,
@@ -360,9 +360,9 @@ pub fn emit_division(
     requires target { target < 32 }
     requires left { left < 32 }
     requires right { right < 32 }
-    ensures { Appends code.old.items code.new.items (quotient_code (setting_in setting.now) is_quotient is_sure target left right) result }
+    ensures { Appends code.old.items code.new.items (quotient_code (setting_in setting.now) is_quotient untested target left right) result }
 {
-    emit_divisor(code, setting, is_sure, right)?;
+    emit_divisor(code, setting, untested, right)?;
     emit(
         code,
         Inst::Div {
