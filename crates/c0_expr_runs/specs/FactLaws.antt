@@ -26,7 +26,8 @@ pub record FactsGrow : Type 0 where
   pub place : (env : Env) (fs : Facts) (e : CExpr) (s : C0State) (k : ℕ) (l : Location) → place_of e s ≡ costs k (Ok l)
       → SureHold fs (variables_of s.frames) → SureHold (facts_followed (typed_of_expr env e) fs) (variables_of s.frames)
   pub test : (sc : Scope) (p : Bases) (fs : Facts) (e : CExpr) (s : C0State) (k : ℕ) (b : Bool) → StateIsTyped sc p s → IsNumberedGiven sc.env e bool
-      → truth (value_of e s) ≡ costs k (Ok b) → SureHold fs (variables_of s.frames) → SureHold (facts_told (typed_of_expr sc.env e) b fs) (variables_of s.frames)
+      → truth (value_of e s) ≡ costs k (Ok b)
+      → SureHold fs (variables_of s.frames) → SureHold (facts_told (typed_of_expr sc.env e) b fs) (variables_of s.frames)
   pub same_followed : (e : TExpr) (fs : Facts) → HaveSameRegisters (facts_followed e fs) fs
   pub same_told : (e : TExpr) (b : Bool) (fs : Facts) → HaveSameRegisters (facts_told e b fs) fs
 
@@ -35,7 +36,8 @@ pub record FactsGrow : Type 0 where
 pub record FactsStay : Type 0 where
   pub kept : (sc : Scope) (p : Bases) (fs : Facts) (s : C0State) (a b : Contents) (r d : ℕ) → 8 ≤ r → KeepsRegisters r d a b
       → (sc.in_registers ≡ false → IsFreeRegister fs d) → FactsHold sc p fs s a → FactsHold sc p fs s b
-  pub within : (sc : Scope) (p : Bases) (less more : Facts) (s : C0State) (c : Contents) → IsWithin less more → FactsHold sc p more s c → FactsHold sc p less s c
+  pub within : (sc : Scope) (p : Bases) (less more : Facts) (s : C0State) (c : Contents) → IsWithin less more
+      → FactsHold sc p more s c → FactsHold sc p less s c
   pub written : (fs : Facts) (s : C0State) (l : Location) (x : Value) (structs : List Shape) (types : List Ty) (t : Ty) → LeadsFrom structs types l.path t
       → SureHold fs (variables_of s.frames) → SureHold (stored_in l.region l.path fs) (variables_of (write s l x).frames)
   pub in_memory : (w : World) (sc : Scope) (p : Bases) (fs : Facts) (s : C0State) (c : Contents) → Area w sc p → RegionsApart sc p → FactsHold sc p fs s c

@@ -70,9 +70,10 @@ with_more layout more = record { globals = layout.globals; objects = layout.obje
 pub record StoresHold : Type 0 where
   pub in_memory : (w : World) (sc : Scope) (p : Bases) (live : ℕ → Bool) (s : C0State) (c : Contents) → Area w sc p → RegionsApart sc p → Ready sc p live s c
       → (l : Location) (t : Ty) (x : Value) → LeadsFrom sc.env.structs (types_in sc p l.region) l.path t
-      → (l.region ≡ locals → sc.in_registers ≡ false) → is_scalar t ≡ true → Ready sc p live (write s l x) (memory_with c (location_word sc p l) (word_of_scalar sc p x))
-  pub in_register : (w : World) (sc : Scope) (p : Bases) (live : ℕ → Bool) (s : C0State) (c : Contents) → Area w sc p → Ready sc p live s c → (n : ℕ) (t : Ty) (x : Value)
-      → sc.in_registers ≡ true → slice_get (types_of sc.env.locals) n ≡ Some t
+      → (l.region ≡ locals → sc.in_registers ≡ false) → is_scalar t ≡ true
+      → Ready sc p live (write s l x) (memory_with c (location_word sc p l) (word_of_scalar sc p x))
+  pub in_register : (w : World) (sc : Scope) (p : Bases) (live : ℕ → Bool) (s : C0State) (c : Contents) → Area w sc p → Ready sc p live s c
+      → (n : ℕ) (t : Ty) (x : Value) → sc.in_registers ≡ true → slice_get (types_of sc.env.locals) n ≡ Some t
       → Ready sc p live (write s (record { region = locals; path = n ∷ [] }) x) (with_reg c (ARGUMENTS + n) (word_of_scalar sc p x))
   pub typed : (sc : Scope) (p : Bases) (s : C0State) → StateIsTyped sc p s → (l : Location) (t : Ty) (x : Value)
       → LeadsFrom sc.env.structs (types_in sc p l.region) l.path t → Fits sc.env.structs (layout sc p) t x → StateIsTyped sc p (write s l x)

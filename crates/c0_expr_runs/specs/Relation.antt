@@ -119,21 +119,22 @@ pub data Source (r : ℕ) : ℕ → Type 0 where
 -- A node as value, from any place and any state of the machine in which the state of C0 stands, and what is known holds: into d, with free registers
 -- from r.
 abbrev pub ValueRuns : World → Scope → Bases → (live : ℕ → Bool) → Facts → C0State → Made → ℕ → Ty → Costed Value → Type 0
-ValueRuns w sc p live fs s m need t e = (d r n : ℕ) (c : Contents) (k : Behind) → k.pending ≡ Idle → ReadyWith sc p live fs s c → CodeAt w n (m.value d r) → 8 ≤ r
-    → r + need ≤ 20 → d ≢ 0 → d ≢ 1
+ValueRuns w sc p live fs s m need t e = (d r n : ℕ) (c : Contents) (k : Behind) → k.pending ≡ Idle → ReadyWith sc p live fs s c
+    → CodeAt w n (m.value d r) → 8 ≤ r → r + need ≤ 20 → d ≢ 0 → d ≢ 1
     → Evaluates w sc 0 n (n + length (m.value d r)) c k (HoldsValue sc p d r d t c) e
 
 -- as an operand, where it stands then
 abbrev pub OperandRuns : World → Scope → Bases → (live : ℕ → Bool) → Facts → C0State → Made → ℕ → Ty → Costed Value → Type 0
-OperandRuns w sc p live fs s m need t e = (r n : ℕ) (c : Contents) (k : Behind) → k.pending ≡ Idle → ReadyWith sc p live fs s c → CodeAt w n (operand_code m r) → 8 ≤ r
-    → r + need ≤ 20
+OperandRuns w sc p live fs s m need t e = (r n : ℕ) (c : Contents) (k : Behind) → k.pending ≡ Idle → ReadyWith sc p live fs s c
+    → CodeAt w n (operand_code m r) → 8 ≤ r → r + need ≤ 20
     → Source r (operand_register m r) × Evaluates w sc 0 n (n + length (operand_code m r)) c k (HoldsValue sc p (operand_register m r) r r t c) e
 
 -- as a place
 abbrev pub PlaceRuns : World → Scope → Bases → (live : ℕ → Bool) → Facts → C0State → Made → ℕ → Bool → Ty → Costed Location → Type 0
-PlaceRuns w sc p live fs s m need local t e = (r n : ℕ) (c : Contents) (k : Behind) → k.pending ≡ Idle → ReadyWith sc p live fs s c → CodeAt w n (m.place r).code → 8 ≤ r
-    → r + need ≤ 20
-    → Source r (m.place r).base × Evaluates w sc 0 n (n + length (m.place r).code) c k (HoldsAddress sc p (m.place r).base (m.place r).displacement r local t c) e
+PlaceRuns w sc p live fs s m need local t e = (r n : ℕ) (c : Contents) (k : Behind) → k.pending ≡ Idle → ReadyWith sc p live fs s c
+    → CodeAt w n (m.place r).code → 8 ≤ r → r + need ≤ 20
+    → Source r (m.place r).base
+    × Evaluates w sc 0 n (n + length (m.place r).code) c k (HoldsAddress sc p (m.place r).base (m.place r).displacement r local t c) e
 
 -- all that is said of a node's code: as a value and as an operand, where its type is scalar; and as a place, unless it is a register
 pub record Claims (w : World) (sc : Scope) (p : Bases) (live : ℕ → Bool) (fs : Facts) (s : C0State) (m : Made) (need : ℕ) (placed local : Bool)
