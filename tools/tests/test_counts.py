@@ -118,6 +118,10 @@ class Believed(unittest.TestCase):
         self.assertTrue(set(headline) < set(boots) < set(everything))
         self.assertEqual(set(everything), set(came).union(*[more for _, more in beside]))
         self.assertTrue(set(headline) < set(came) < set(everything))
+        # definitions that stand in a `mutual` are counted with the others
+        for name in ('c0_meaning.specs.Evaluation.place_of', 'c0_expr_code.specs.Test.test_code'):
+            where, _, word = name.rpartition('.')
+            self.assertIn((specs.file(where).path, specs.file(where).own[word]), headline)
         # how a run ends is no word of the first, and is counted of the others
         ends = specs.file('run_scripts.specs.Ends')
         for name in ('Ends', 'WasDone', 'PlanAsks'):
