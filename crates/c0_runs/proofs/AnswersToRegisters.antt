@@ -85,7 +85,7 @@ module _ (runs : RunLaws) (compose : RunsCompose) (W E : Type 0) (Outer : W → 
   is_word _ _ f = absurd f
 
   pub finishes_light : (place : CExpr) (v : Value) (t : Ty) (x : ℕ) → Fits (shapes z.p.unit) (store_typing z.p.unit objects) t v → c.regs 2 ≡ word_of_value W E Outer z objects v → IsVariable (body_env (code_text W E Outer z) a.function) sc place x t → (h : AnswerStands (code_text W E Outer z) a.function a.facts k place t) → (made sc h.before place).register ≡ Some x
-      → Block (code_text W E Outer z) a.function h.behind (k + length (answer_code sc h.before place)) debt rest (λ fs to left. Goes (code_text W E Outer z) a others work fs to left)
+      → Block (code_text W E Outer z) a.function h.after (k + length (answer_code sc h.before place)) debt rest (λ fs to left. Goes (code_text W E Outer z) a others work fs to left)
       → AreLiveAtPlace a.live others place rest work → GoesOn W E Outer z debt here (at_with k c d) (store (units 0) place v rest work here)
   finishes_light place v t x fits is y h stands block live =
       let at = (its_place runs compose W E Outer z jumps straight held typing exprs fit objects gv hv hw g fs world calls answer c d a others st r waits k debt rest work place t x y).at in
@@ -99,6 +99,6 @@ module _ (runs : RunLaws) (compose : RunsCompose) (W E : Type 0) (Outer : W → 
       let go = away runs z.w 1 (at_with k c d) (at_with (k + 1) (with_reg c x (c.regs 2)) d) (λ q. absurd (omega (arith, q))) one in
       let canonical = word_same (shapes z.p.unit) (map typed_of z.p.unit.globals) z.a.globals z.a.heap objects objects (λ path t h. refl) (rest_of (unit_scope z.p.unit)) (rest_of sc) (end_of W E Outer z []) (end_of W E Outer z (g ∷ fs)) t v fits in
       let len : k + length (answer_code sc h.before place) ≡ k + 1 = ap (λ is. k + length is) same in
-      stores_light runs compose W E Outer z jumps straight held typing exprs fit objects gv hv hw g fs world calls answer c d a others st r waits k debt rest work place t x v 1 1 (k + 1) (units 0) (at_with k c d) (with_reg c x (c.regs 2)) a.facts h.behind r.sure (λ b q n e. answer_sure sc.in_registers (typed_of_expr sc.env place) (stored_facts (typed_of_expr sc.env place) a.facts) b q n (h.later.sure n e)) y h.there.left.scalar fits
+      stores_light runs compose W E Outer z jumps straight held typing exprs fit objects gv hv hw g fs world calls answer c d a others st r waits k debt rest work place t x v 1 1 (k + 1) (units 0) (at_with k c d) (with_reg c x (c.regs 2)) a.facts h.after r.sure (λ b q n e. answer_sure sc.in_registers (typed_of_expr sc.env place) (stored_facts (typed_of_expr sc.env place) a.facts) b q n (h.later.sure n e)) y h.there.left.scalar fits
       (record { is = same_reg c.regs x (c.regs 2) nz ∙ is ∙ sym canonical; above = λ q le ne. other_reg c.regs x (c.regs 2) q ne; memory = refl; special = refl })
-      go (omega arith) (omega arith) (subst (λ m. Block (code_text W E Outer z) a.function h.behind m debt rest (λ fs to left. Goes (code_text W E Outer z) a others work fs to left)) len block) live
+      go (omega arith) (omega arith) (subst (λ m. Block (code_text W E Outer z) a.function h.after m debt rest (λ fs to left. Goes (code_text W E Outer z) a others work fs to left)) len block) live

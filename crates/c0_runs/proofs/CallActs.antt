@@ -191,7 +191,7 @@ module _ (runs : RunLaws) (compose : RunsCompose) (W E : Type 0) (Outer : W → 
             there = record { left = left; shallow = omega (arith, deep); few = omega (arith, few) };
             before = facts_called a.facts;
             fewer = called_follows a.facts (all_followed (map (typed_of_expr sc.env) args) a.facts) (all_followed_grows (map (typed_of_expr sc.env) args) a.facts);
-            behind = behind_call args p;
+            after = behind_call args p;
             later = within_itself (behind_call args p);
             code = jal_at.1;
           },

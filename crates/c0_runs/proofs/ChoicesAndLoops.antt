@@ -31,7 +31,7 @@ use Rattle.c0_stmt_code.specs.Behind.{stored_facts}
 use Rattle.c0_stmt_code.specs.Behind as known
 use Rattle.c0_runs.proofs.FactsBehind.{within_both, followed_grows, told_grows, behind_yes, behind_no, behind_turn}
 use Rattle.c0_runs.proofs.FactsKept.{facts_within, free_between}
-use Rattle.c0_stmt_code.specs.Code.{Links, skip, assigned_code, assign_code, otherwise, otherwise_at, choice_code, back, turn_code, while_code, stmt_code, stmts_code, behind_stmt, behind_stmts, tested_facts, told_facts}
+use Rattle.c0_stmt_code.specs.Code.{Links, skip, assigned_code, assign_code, otherwise, otherwise_at, choice_code, back, turn_code, while_code, stmt_code, stmts_code, facts_behind_stmt, facts_behind_stmts, tested_facts, told_facts}
 use Rattle.c0_runs.specs.Setup.{Setup}
 use Rattle.c0_expr_code.specs.Reads.{reads}
 use Rattle.c0_stmt_code.specs.Live.{live_at_place, are_live}
@@ -41,7 +41,7 @@ use Rattle.c0_runs.specs.Standing.{code_text, scope, bases, Waiting, FunctionRun
 use Rattle.c0_runs.proofs.PremisesFromBelow.{ExpressionsDo, HeldStays, TypedStays}
 use Rattle.c0_stmt_code.proofs.PremisesOfFunctions.{LengthsFit}
 use Rattle.c0_runs.proofs.RunStretches.{none}
-use Rattle.c0_runs.proofs.WorkAsCode.{Goes, or_left, or_right, front, skipped, Follows, behind, block_of}
+use Rattle.c0_runs.proofs.WorkAsCode.{Goes, or_left, or_right, front, Follows, behind, block_of}
 use Rattle.c0_runs.proofs.WorkAsCode as blocks
 use Rattle.c0_runs.proofs.UnitsWithinNodes.{value_within, truth_within}
 use Rattle.c0_stmt_code.proofs.ShortStatements.{stmts_length, stmt_some}
@@ -160,7 +160,7 @@ module _ (runs : RunLaws) (compose : RunsCompose) (W E : Type 0) (Outer : W → 
 
   -- what is known behind it
   abbrev behind_choice : CExpr → CStmts → CStmts → Facts
-  behind_choice t x y = known.behind sc.in_registers (typed.choice (typed_of_expr sc.env t) (typed_of_stmts sc.env x) (typed_of_stmts sc.env y)) a.facts
+  behind_choice t x y = known.facts_behind sc.in_registers (typed.choice (typed_of_expr sc.env t) (typed_of_stmts sc.env x) (typed_of_stmts sc.env y)) a.facts
 
   -- what is known where a test came out so holds there
   told_there : (t : CExpr) (b : Bool) (c1 : Contents) (u : ℕ) → IsNumberedTest (body_env (code_text W E Outer z) a.function) t bool → truth (value_of t here.state) ≡ costs u (Ok b) → KeepsRegisters 8 8 c c1 → FactsHold sc frame_bases (told_so t b) here.state c1
@@ -213,7 +213,7 @@ module _ (runs : RunLaws) (compose : RunsCompose) (W E : Type 0) (Outer : W → 
           let e = otherwise_length z.w sc (told_so t false) (code_text W E Outer z).links y in omega (arith, e, length-append (its_test t false (far_of t x y)) (stmts_where t true x ++ otherwise y (stmts_where t false y)), length-append (stmts_where t true x) (otherwise y (stmts_where t false y))) in
           let over = otherwise_over z.w sc (told_so t false) (code_text W E Outer z).links y (end + length (stmts_where t true x)) follows.count follows.to (blocks.back z.w end (stmts_where t true x) (otherwise y (stmts_where t false y)) there) (omega (arith, l3, few)) (subst (λ m. Skips z.w follows.count m follows.to) len follows.skips) in
           let b = block_of (code_text W E Outer z) a.function (λ fs to left. Goes (code_text W E Outer z) a others (push rest work) fs to left) x (told_so t true) end (otherwise_at y + follows.count) follows.to follows.left (otherwise_at y + debt) tx (omega (arith, few)) (λ q. (and_parts (are_free_of_calls x) (are_free_of_calls y) (free q)).0) (λ q. its_calls (or_left (are_calling x) (are_calling y) q))
-          (front z.w end (stmts_where t true x) (otherwise y (stmts_where t false y)) there) over (omega (arith, owed)) follows.known (within_both follows.known (behind_choice t x y) (behind_stmts sc (told_so t true) x) follows.fewer (behind_yes sc.in_registers (typed_of_expr sc.env t) (typed_of_stmts sc.env x) (typed_of_stmts sc.env y) a.facts)) follows.ahead in
+          (front z.w end (stmts_where t true x) (otherwise y (stmts_where t false y)) there) over (omega (arith, owed)) follows.known (within_both follows.known (behind_choice t x y) (facts_behind_stmts sc (told_so t true) x) follows.fewer (behind_yes sc.in_registers (typed_of_expr sc.env t) (typed_of_stmts sc.env x) (typed_of_stmts sc.env y) a.facts)) follows.ahead in
           arrives runs compose W E Outer z jumps (0 + 1) (0 + (1 + 16 * u)) debt (otherwise_at y + debt) (plus (units 1) (units u)) here here s end c1 d objects (knowing a (told_so t true)) others x (push rest work) path1 (omega (arith, most, few)) (omega (arith, at)) (omega arith) st1 under b
           (both_live a.live others x rest work (λ m q. live.0 m (or_right (reads t m) _ (or_left (are_live x m _) _ q))) live.1)
       branches false u c1 least most kept took is path1 there l1 l2 at =
@@ -226,7 +226,7 @@ module _ (runs : RunLaws) (compose : RunsCompose) (W E : Type 0) (Outer : W → 
           let place : end + length (stmts_where t true x) + otherwise_at y ≡ end + (yes_words t x + otherwise_at y) = omega arith in
           let b = block_of (code_text W E Outer z) a.function (λ fs to left. Goes (code_text W E Outer z) a others (push rest work) fs to left) y (told_so t false) (end + (yes_words t x + otherwise_at y)) follows.count follows.to follows.left debt ty (omega (arith, few)) (λ q. (and_parts (are_free_of_calls x) (are_free_of_calls y) (free q)).1) (λ q. its_calls (or_right (are_calling x) (are_calling y) q))
           (subst (λ m. CodeAt z.w m (stmts_where t false y)) place (otherwise_there z.w sc (told_so t false) (code_text W E Outer z).links y (end + length (stmts_where t true x)) (blocks.back z.w end (stmts_where t true x) (otherwise y (stmts_where t false y)) there)))
-          (subst (λ m. Skips z.w follows.count m follows.to) len follows.skips) follows.owed follows.known (within_both follows.known (behind_choice t x y) (behind_stmts sc (told_so t false) y) follows.fewer (behind_no sc.in_registers (typed_of_expr sc.env t) (typed_of_stmts sc.env x) (typed_of_stmts sc.env y) a.facts)) follows.ahead in
+          (subst (λ m. Skips z.w follows.count m follows.to) len follows.skips) follows.owed follows.known (within_both follows.known (behind_choice t x y) (facts_behind_stmts sc (told_so t false) y) follows.fewer (behind_no sc.in_registers (typed_of_expr sc.env t) (typed_of_stmts sc.env x) (typed_of_stmts sc.env y) a.facts)) follows.ahead in
           arrives runs compose W E Outer z jumps (0 + 1) (0 + (1 + 16 * u)) debt debt (plus (units 1) (units u)) here here s (end + (yes_words t x + otherwise_at y)) c1 d objects (knowing a (told_so t false)) others y (push rest work) path1 (omega (arith, most, few)) (omega arith) (omega arith) st1 under b
           (both_live a.live others y rest work (λ m q. live.0 m (or_right (reads t m) _ (or_right (are_live x m _) _ q))) live.1)
 
@@ -261,11 +261,11 @@ module _ (runs : RunLaws) (compose : RunsCompose) (W E : Type 0) (Outer : W → 
     where
       body_words : (x : CStmts) → max (length (stmts_where t true x)) 1 + body_at x from ≡ from + 1 + length (stmts_where t true x)
       body_words done = omega arith
-      body_words (next q w) = let e = stmt_some sc (code_text W E Outer z).links (fit a.function) (told_so t true) q in omega (arith, e, length-append (stmt_code sc (told_so t true) (code_text W E Outer z).links q) (stmts_code sc (behind_stmt sc (told_so t true) q) (code_text W E Outer z).links w))
+      body_words (next q w) = let e = stmt_some sc (code_text W E Outer z).links (fit a.function) (told_so t true) q in omega (arith, e, length-append (stmt_code sc (told_so t true) (code_text W E Outer z).links q) (stmts_code sc (facts_behind_stmt sc (told_so t true) q) (code_text W E Outer z).links w))
 
       apart_ends : (x : CStmts) → (b : Bool) → turn_at t x from ≢ ends true (body_at x from) (turn_at t x from + length (turn_code sc a.facts t (stmts_where t true x))) b
       apart_ends done true = λ e. absurd (omega (arith, e))
-      apart_ends (next q w) true = let n = stmt_some sc (code_text W E Outer z).links (fit a.function) (told_so t true) q in let l = length-append (stmt_code sc (told_so t true) (code_text W E Outer z).links q) (stmts_code sc (behind_stmt sc (told_so t true) q) (code_text W E Outer z).links w) in λ e. absurd (omega (arith, e, n, l))
+      apart_ends (next q w) true = let n = stmt_some sc (code_text W E Outer z).links (fit a.function) (told_so t true) q in let l = length-append (stmt_code sc (told_so t true) (code_text W E Outer z).links q) (stmts_code sc (facts_behind_stmt sc (told_so t true) q) (code_text W E Outer z).links w) in λ e. absurd (omega (arith, e, n, l))
       apart_ends y false = let n = (fit a.function).test_some a.facts t true (back sc a.facts t (stmts_where t true y)) 8 in λ e. absurd (omega (arith, e, n))
 
       -- what the loop's body may read, and what may be read from its next test on
@@ -284,11 +284,11 @@ module _ (runs : RunLaws) (compose : RunsCompose) (W E : Type 0) (Outer : W → 
             1 + debt,
             omega arith,
             block_of (code_text W E Outer z) a.function (λ fs to left. Goes (code_text W E Outer z) a others (again t x rest ∷ work) fs to left) done (told_so t true) from 1 (turn_at t x from) debt (1 + debt) typed few free its_calls tt
-                (0, omega arith, subst (λ m. z.w.code m ≡ Some (skip 0)) (omega arith) jump, omega (arith, there)) (omega arith) a.facts (subst (λ y. IsWithin a.facts (behind_stmts sc (told_so t true) y)) (sym e) (behind_turn sc.in_registers (typed_of_expr sc.env t) (typed_of_stmts sc.env x) a.facts stands.stays)) then_again,
+                (0, omega arith, subst (λ m. z.w.code m ≡ Some (skip 0)) (omega arith) jump, omega (arith, there)) (omega arith) a.facts (subst (λ y. IsWithin a.facts (facts_behind_stmts sc (told_so t true) y)) (sym e) (behind_turn sc.in_registers (typed_of_expr sc.env t) (typed_of_stmts sc.env x) a.facts stands.stays)) then_again,
           )
       entered (next q w) e typed few free its_calls jump code =
           let there : from + 1 + length (stmts_where t true (next q w)) ≡ turn_at t x from = ap (λ y. from + 1 + length (stmts_where t true y)) e in
-          (debt, omega arith, block_of (code_text W E Outer z) a.function (λ fs to left. Goes (code_text W E Outer z) a others (again t x rest ∷ work) fs to left) (next q w) (told_so t true) (from + 1) 0 (turn_at t x from) debt debt typed few free its_calls code there (omega arith) a.facts (subst (λ y. IsWithin a.facts (behind_stmts sc (told_so t true) y)) (sym e) (behind_turn sc.in_registers (typed_of_expr sc.env t) (typed_of_stmts sc.env x) a.facts stands.stays)) then_again)
+          (debt, omega arith, block_of (code_text W E Outer z) a.function (λ fs to left. Goes (code_text W E Outer z) a others (again t x rest ∷ work) fs to left) (next q w) (told_so t true) (from + 1) 0 (turn_at t x from) debt debt typed few free its_calls code there (omega arith) a.facts (subst (λ y. IsWithin a.facts (facts_behind_stmts sc (told_so t true) y)) (sym e) (behind_turn sc.in_registers (typed_of_expr sc.env t) (typed_of_stmts sc.env x) a.facts stands.stays)) then_again)
 
       branches : (b : Bool) (u : ℕ) (c1 : Contents) → 1 ≤ u → u ≤ nodes t → KeepsRegisters 8 8 c c1 → (took : ℕ) → truth (value_of t here.state) ≡ costs took (Ok b)
           → Path runs compose W E Outer z jumps (0 + 1) (first + (1 + 16 * u)) s0 (at_with (ends true (body_at x from) (turn_at t x from + length (turn_code sc a.facts t (stmts_where t true x))) b) c1 d)

@@ -30,7 +30,7 @@ use Rattle.c0_typed.specs.Typed.{typed_of_expr, typed_of_stmts}
 use Rattle.c0_expr_code.specs.declared.facts.Facts.{Facts}
 use Rattle.c0_expr_code.specs.Facts.{facts_called}
 use Rattle.c0_stmt_code.specs.Behind.{all_followed}
-use Rattle.c0_stmt_code.specs.Code.{args_code, answer_code, stored_code, callee_index, stmt_code, stmts_code, behind_stmt, told_facts, turn_facts}
+use Rattle.c0_stmt_code.specs.Code.{args_code, answer_code, stored_code, callee_index, stmt_code, stmts_code, facts_behind_stmt, told_facts, turn_facts}
 use Rattle.c0_runs.proofs.FactsBehind.{changes_shrink, turns_stay}
 use Rattle.c0_runs.proofs.WorkAsCode.{Goes, skipped}
 use Rattle.c0_runs.specs.Setup.{Setup}
@@ -138,7 +138,7 @@ module _ (runs : RunLaws) (compose : RunsCompose) (W E : Type 0) (Outer : W → 
     At known k rest work = Block (code_text W E Outer z) a.function known k debt rest (λ fs to left. Goes (code_text W E Outer z) a others work fs to left)
 
     -- a statement
-    states : (t : CStmt) (rest : CStmts) (work : List Work) → StatementStands (code_text W E Outer z) a.function a.facts k t → At (behind_stmt sc a.facts t) (k + length (stmt_code sc a.facts (code_text W E Outer z).links t)) rest work → AreLiveBefore a.live others (λ n b. is_live t n b) rest work
+    states : (t : CStmt) (rest : CStmts) (work : List Work) → StatementStands (code_text W E Outer z) a.function a.facts k t → At (facts_behind_stmt sc a.facts t) (k + length (stmt_code sc a.facts (code_text W E Outer z).links t)) rest work → AreLiveBefore a.live others (λ n b. is_live t n b) rest work
         → StepIs W E Outer z debt (act_on t rest) here (at_with k c d) (act_statement z.p t rest work here)
     states (assign s p v) rest work stands block live = goes_on W E Outer z debt (act_on (assign s p v) rest) here (at_with k c d) (act_statement z.p (assign s p v) rest work here) (by_rule stands.typed)
       where
@@ -197,7 +197,7 @@ module _ (runs : RunLaws) (compose : RunsCompose) (W E : Type 0) (Outer : W → 
                 (λ c2 vs l m cost st2 w2 at2 to ret fits are ahead lv path low high en. begins objects gv hv hw (g ∷ fs) world calls answer c2 d (knowing a (facts_called (all_followed (map (typed_of_expr sc.env) args) a.facts)) ∷ others) st2 w2 at2 callee.number to debt q.0 q.1 vs (into p rest) work ret fits are ahead lv l m cost here (at_with k c d) path low high en)
                 given2 (omega (arith, count, size, many)) (omega (arith, size, many)) left2 deep (omega (arith, few))
                 (subst (λ i. CodeAt z.w k (args_code sc a.facts args 0 ++ (Jal i ∷ answer_code sc (facts_called a.facts) p))) index stands.code)
-                (subst (λ i. At (behind_stmt sc a.facts (call s p cs callee args)) (k + length (args_code sc a.facts args 0 ++ (Jal i ∷ answer_code sc (facts_called a.facts) p))) rest work) index block) live))
+                (subst (λ i. At (facts_behind_stmt sc a.facts (call s p cs callee args)) (k + length (args_code sc a.facts args 0 ++ (Jal i ∷ answer_code sc (facts_called a.facts) p))) rest work) index block) live))
             by_kind Primitive e =
                 let is = subst (λ kd. callee_at (body_env (code_text W E Outer z) a.function) kd callee.number ≡ Some signature) e found in
                 let q = primitive_from z.table callee.number signature is in
@@ -212,7 +212,7 @@ module _ (runs : RunLaws) (compose : RunsCompose) (W E : Type 0) (Outer : W → 
                 (calls_primitive runs compose W E Outer z jumps straight held typing exprs objects gv hv hw g fs world calls answer c d a others st r waits (in_frame sc.in_registers refl stands.free) (stands.calls refl) k debt callee.number q.0 args p rest work q.1
                 given2 (omega (arith, count, size, many)) (act_on (call s p cs callee args) rest) (λ u vs same. (e, refl, (u, same))) left2 deep (omega (arith, few)) (answer_some sc (facts_called a.facts) p)
                 (subst (λ i. CodeAt z.w k (args_code sc a.facts args 0 ++ (Jal i ∷ answer_code sc (facts_called a.facts) p))) index stands.code)
-                (subst (λ i. At (behind_stmt sc a.facts (call s p cs callee args)) (k + length (args_code sc a.facts args 0 ++ (Jal i ∷ answer_code sc (facts_called a.facts) p))) rest work) index block) live)
+                (subst (λ i. At (facts_behind_stmt sc a.facts (call s p cs callee args)) (k + length (args_code sc a.facts args 0 ++ (Jal i ∷ answer_code sc (facts_called a.facts) p))) rest work) index block) live)
             by_kind Unresolved e = let is = subst (λ kd. callee_at (body_env (code_text W E Outer z) a.function) kd callee.number ≡ Some signature) e found in absurd (cc)
             by_kind Struct e = let is = subst (λ kd. callee_at (body_env (code_text W E Outer z) a.function) kd callee.number ≡ Some signature) e found in absurd (cc)
             by_kind Field e = let is = subst (λ kd. callee_at (body_env (code_text W E Outer z) a.function) kd callee.number ≡ Some signature) e found in absurd (cc)

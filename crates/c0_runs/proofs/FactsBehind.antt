@@ -7,7 +7,7 @@ use Rattle.c0_typed.specs.declared.sorted.Plain.{Plain}
 use Rattle.c0_typed.specs.Tree.{TExpr, global, local, part, element, target, constant, address, negative, negation, plain, quotient, remainder, both, either, TStmt, assign, call, new, choice, loop, TStmts, done, next}
 use Rattle.c0_expr_code.specs.declared.facts.Facts.{Facts}
 use Rattle.c0_expr_code.specs.Facts.{IsWithin, assigned_to, facts_answered, facts_called, facts_compared, facts_followed, found_sure, holds_answer, holds_param, is_not_null, is_zero, overwritten, renewed, start_facts, tells_difference, facts_told, variable_in, with_sure}
-use Rattle.c0_stmt_code.specs.Behind.{all_changed, all_followed, answer_known, behind, behind_all, changed, kill_place, stored_facts}
+use Rattle.c0_stmt_code.specs.Behind.{all_changed, all_followed, answer_known, facts_behind, facts_behind_all, changed, kill_place, stored_facts}
 
 pub within_itself : (f : Facts) → IsWithin f f
 within_itself f = record { params = λ n h. h; answer = λ n h. h; sure = λ n h. h }
@@ -297,7 +297,7 @@ stored_grows : (p : TExpr) (less f : Facts) → IsWithin less f → IsWithin (ki
 stored_grows p less f w = place_follows p less (facts_followed p f) (within_both less f (facts_followed p f) w (followed_grows p f))
 
 -- what a statement doesn't end is known behind it
-changed_behind : (r : Bool) (s : TStmt) (f : Facts) → IsWithin (changed s f) (behind r s f)
+changed_behind : (r : Bool) (s : TStmt) (f : Facts) → IsWithin (changed s f) (facts_behind r s f)
 changed_behind r (assign p v) f = stored_grows p f (facts_followed v f) (followed_grows v f)
 changed_behind r (call k n args p) f =
     answer_grows r p (kill_place p (facts_called f)) (stored_facts p (facts_called (all_followed args f))) (place_no_answer p (facts_called f) refl)
@@ -306,29 +306,29 @@ changed_behind r (new w p) f = stored_grows p (renewed f) (renewed f) (within_it
 changed_behind r (choice t a b) f = changes_follow b (all_changed a f) (all_changed a (facts_followed t f)) (changes_follow a f (facts_followed t f) (followed_grows t f))
 changed_behind r (loop t b) f = followed_grows t (all_changed b f)
 
-changes_behind : (r : Bool) (ss : TStmts) (f : Facts) → IsWithin (all_changed ss f) (behind_all r ss f)
+changes_behind : (r : Bool) (ss : TStmts) (f : Facts) → IsWithin (all_changed ss f) (facts_behind_all r ss f)
 changes_behind r done f = within_itself f
 changes_behind r (next s rest) f =
-    within_both (all_changed rest (changed s f)) (all_changed rest (behind r s f)) (behind_all r rest (behind r s f))
-    (changes_follow rest (changed s f) (behind r s f) (changed_behind r s f)) (changes_behind r rest (behind r s f))
+    within_both (all_changed rest (changed s f)) (all_changed rest (facts_behind r s f)) (facts_behind_all r rest (facts_behind r s f))
+    (changes_follow rest (changed s f) (facts_behind r s f) (changed_behind r s f)) (changes_behind r rest (facts_behind r s f))
 
 -- what is known behind an `if` is known behind each branch
-pub behind_yes : (r : Bool) (t : TExpr) (a b : TStmts) (f : Facts) → IsWithin (behind r (choice t a b) f) (behind_all r a (facts_told t true f))
+pub behind_yes : (r : Bool) (t : TExpr) (a b : TStmts) (f : Facts) → IsWithin (facts_behind r (choice t a b) f) (facts_behind_all r a (facts_told t true f))
 behind_yes r t a b f =
-    within_both (all_changed b (all_changed a (facts_followed t f))) (all_changed a (facts_followed t f)) (behind_all r a (facts_told t true f)) (changes_shrink b (all_changed a (facts_followed t f)))
-    (within_both (all_changed a (facts_followed t f)) (all_changed a (facts_told t true f)) (behind_all r a (facts_told t true f)) (changes_follow a (facts_followed t f) (facts_told t true f) (told_grows t true f)) (changes_behind r a (facts_told t true f)))
+    within_both (all_changed b (all_changed a (facts_followed t f))) (all_changed a (facts_followed t f)) (facts_behind_all r a (facts_told t true f)) (changes_shrink b (all_changed a (facts_followed t f)))
+    (within_both (all_changed a (facts_followed t f)) (all_changed a (facts_told t true f)) (facts_behind_all r a (facts_told t true f)) (changes_follow a (facts_followed t f) (facts_told t true f) (told_grows t true f)) (changes_behind r a (facts_told t true f)))
 
-pub behind_no : (r : Bool) (t : TExpr) (a b : TStmts) (f : Facts) → IsWithin (behind r (choice t a b) f) (behind_all r b (facts_told t false f))
+pub behind_no : (r : Bool) (t : TExpr) (a b : TStmts) (f : Facts) → IsWithin (facts_behind r (choice t a b) f) (facts_behind_all r b (facts_told t false f))
 behind_no r t a b f =
-    within_both (all_changed b (all_changed a (facts_followed t f))) (all_changed b (facts_told t false f)) (behind_all r b (facts_told t false f))
+    within_both (all_changed b (all_changed a (facts_followed t f))) (all_changed b (facts_told t false f)) (facts_behind_all r b (facts_told t false f))
     (changes_follow b (all_changed a (facts_followed t f)) (facts_told t false f) (within_both (all_changed a (facts_followed t f)) (facts_followed t f) (facts_told t false f) (changes_shrink a (facts_followed t f)) (told_grows t false f)))
     (changes_behind r b (facts_told t false f))
 
 -- what is known where a loop's test begins is known behind its body
-pub behind_turn : (r : Bool) (t : TExpr) (b : TStmts) (f : Facts) → IsWithin f (all_changed b f) → IsWithin f (behind_all r b (facts_told t true f))
+pub behind_turn : (r : Bool) (t : TExpr) (b : TStmts) (f : Facts) → IsWithin f (all_changed b f) → IsWithin f (facts_behind_all r b (facts_told t true f))
 behind_turn r t b f w =
-    within_both f (all_changed b f) (behind_all r b (facts_told t true f)) w
-    (within_both (all_changed b f) (all_changed b (facts_told t true f)) (behind_all r b (facts_told t true f)) (changes_follow b f (facts_told t true f) (known_told t true f)) (changes_behind r b (facts_told t true f)))
+    within_both f (all_changed b f) (facts_behind_all r b (facts_told t true f)) w
+    (within_both (all_changed b f) (all_changed b (facts_told t true f)) (facts_behind_all r b (facts_told t true f)) (changes_follow b f (facts_told t true f) (known_told t true f)) (changes_behind r b (facts_told t true f)))
 
 -- `new` leaves no answer, and what is known once its object's address has gone to a place is known of an answer
 pub object_within : (r : Bool) (p : TExpr) (f : Facts) → IsWithin (stored_facts p (renewed f)) (answer_known r p (stored_facts p (renewed f)))

@@ -30,7 +30,7 @@ use Rattle.c0_runs.proofs.FactsBehind.{start_answer, start_params, start_sure, w
 use Rattle.std.specs.List.{list_all}
 use Rattle.c0_runs.proofs.RegisterFrames.{each_scalar, scalars_behind, clears, saves_light}
 use Rattle.c0_expr_runs.specs.Bases.{Bases, words_of_all, locals_start, RegionHeld, LocalsHeld}
-use Rattle.c0_stmt_code.specs.Code.{large_code, end_code, body_code, register_entry, clear_code, stack_test, save_code, params_code, locals_code, frame_entry, return_code, stmts_code, function_code, behind_stmts, first_facts}
+use Rattle.c0_stmt_code.specs.Code.{large_code, end_code, body_code, register_entry, clear_code, stack_test, save_code, params_code, locals_code, frame_entry, return_code, stmts_code, function_code, facts_behind_stmts, first_facts}
 use Rattle.c0_runs.specs.Setup.{Setup}
 use Rattle.c0_runs.specs.Ahead.{Activation, Awaits, Ahead, AnswerIsLive, WaitingAreLive}
 use Rattle.c0_stmt_code.specs.Live.{are_scalar, is_cleared}
@@ -211,7 +211,7 @@ module _ (runs : RunLaws) (compose : RunsCompose) (W E : Type 0) (Outer : W → 
     its_entry locals stmts result = save_code its_setting (are_calling stmts) ++ (params_code its_setting (length f.params) 0 ++ locals_code its_setting (is_cleared locals stmts result) (all_words (shapes z.p.unit) (map typed_of locals)) (length f.params))
 
     abbrev its_body : CStmts → CExpr → List Inst
-    its_body stmts result = stmts_code sc known_first (code_text W E Outer z).links stmts ++ return_code sc (behind_stmts sc known_first stmts) (are_calling stmts) result
+    its_body stmts result = stmts_code sc known_first (code_text W E Outer z).links stmts ++ return_code sc (facts_behind_stmts sc known_first stmts) (are_calling stmts) result
 
     code_is : (locals : List CDecl) (stmts : CStmts) (result : CExpr) → f.body ≡ code locals stmts result → sc.in_registers ≡ false → function_code sc (code_text W E Outer z).links f ≡ (stack_test its_setting 29 ++ its_entry locals stmts result) ++ its_body stmts result
     code_is locals stmts result e form =
@@ -293,10 +293,10 @@ module _ (runs : RunLaws) (compose : RunsCompose) (W E : Type 0) (Outer : W → 
             let bodies = functions.typed n f locals stmts result is e in
             let count = functions.nodes n f locals stmts result is e in
             let calling : are_calling stmts ≡ calls_in f.body = sym (ap calls_in e) in
-            let result_at = back z.w kb (stmts_code sc known_first (code_text W E Outer z).links stmts) (return_code sc (behind_stmts sc known_first stmts) (are_calling stmts) result) body_at in
+            let result_at = back z.w kb (stmts_code sc known_first (code_text W E Outer z).links stmts) (return_code sc (facts_behind_stmts sc known_first stmts) (are_calling stmts) result) body_at in
             let block = block_of (code_text W E Outer z) f (λ known at left. Goes (code_text W E Outer z) (its_activation locals stmts result) acts (leave result target ∷ work) known at left) stmts known_first kb 0 (kb + length (stmts_code sc known_first (code_text W E Outer z).links stmts)) debt debt bodies.0 (omega (arith, count)) (λ q. let w : true ≡ false = sym q ∙ form in absurd (cc)) (λ q. ap calls_in e ∙ q)
-            (front z.w kb (stmts_code sc known_first (code_text W E Outer z).links stmts) (return_code sc (behind_stmts sc known_first stmts) (are_calling stmts) result) body_at) refl (omega arith) (behind_stmts sc known_first stmts) (within_itself (behind_stmts sc known_first stmts))
-            (record { test = bodies.1; few = omega (arith, count); code = subst (λ b. CodeAt z.w (kb + length (stmts_code sc known_first (code_text W E Outer z).links stmts)) (return_code sc (behind_stmts sc known_first stmts) b result)) calling result_at }, ahead) in
+            (front z.w kb (stmts_code sc known_first (code_text W E Outer z).links stmts) (return_code sc (facts_behind_stmts sc known_first stmts) (are_calling stmts) result) body_at) refl (omega arith) (facts_behind_stmts sc known_first stmts) (within_itself (facts_behind_stmts sc known_first stmts))
+            (record { test = bodies.1; few = omega (arith, count); code = subst (λ b. CodeAt z.w (kb + length (stmts_code sc known_first (code_text W E Outer z).links stmts)) (return_code sc (facts_behind_stmts sc known_first stmts) b result)) calling result_at }, ahead) in
             let way1 = on runs z.w l m 1 5 s0 (at_with k c d) (at_with k1 t.0 d) path (away runs z.w 5 (at_with k c d) (at_with k1 t.0 d) (λ q. let ts = test_some in absurd (omega (arith, q, ts))) t.2) in
             let way2 = on runs z.w (l + 1) (m + 5) fr.least fr.most s0 (at_with k1 t.0 d) (at_with kb fr.contents d) way1 (subst (λ y. Stretch runs z.w fr.least fr.most (at_with k1 t.0 d) (at_with y fr.contents d)) len fr.way) in
             let paid = fr.paid in
@@ -440,10 +440,10 @@ module _ (runs : RunLaws) (compose : RunsCompose) (W E : Type 0) (Outer : W → 
             let bodies = functions.typed n f locals stmts result is e in
             let count = functions.nodes n f locals stmts result is e in
             let calling : are_calling stmts ≡ calls_in f.body = sym (ap calls_in e) in
-            let result_at = back z.w kb (stmts_code sc known_first (code_text W E Outer z).links stmts) (return_code sc (behind_stmts sc known_first stmts) (are_calling stmts) result) body_at in
+            let result_at = back z.w kb (stmts_code sc known_first (code_text W E Outer z).links stmts) (return_code sc (facts_behind_stmts sc known_first stmts) (are_calling stmts) result) body_at in
             let block = block_of (code_text W E Outer z) f (λ known at left. Goes (code_text W E Outer z) (its_activation locals stmts result) acts (leave result target ∷ work) known at left) stmts known_first kb 0 (kb + length (stmts_code sc known_first (code_text W E Outer z).links stmts)) debt debt bodies.0 (omega (arith, count)) (λ q. light.free) (λ q. ap calls_in e ∙ q)
-            (front z.w kb (stmts_code sc known_first (code_text W E Outer z).links stmts) (return_code sc (behind_stmts sc known_first stmts) (are_calling stmts) result) body_at) refl (omega arith) (behind_stmts sc known_first stmts) (within_itself (behind_stmts sc known_first stmts))
-            (record { test = bodies.1; few = omega (arith, count); code = subst (λ b. CodeAt z.w (kb + length (stmts_code sc known_first (code_text W E Outer z).links stmts)) (return_code sc (behind_stmts sc known_first stmts) b result)) calling result_at }, ahead) in
+            (front z.w kb (stmts_code sc known_first (code_text W E Outer z).links stmts) (return_code sc (facts_behind_stmts sc known_first stmts) (are_calling stmts) result) body_at) refl (omega arith) (facts_behind_stmts sc known_first stmts) (within_itself (facts_behind_stmts sc known_first stmts))
+            (record { test = bodies.1; few = omega (arith, count); code = subst (λ b. CodeAt z.w (kb + length (stmts_code sc known_first (code_text W E Outer z).links stmts)) (return_code sc (facts_behind_stmts sc known_first stmts) b result)) calling result_at }, ahead) in
             let way1 = on runs z.w l m 1 5 s0 (at_with k c d) (at_with k1 t.0 d) path (away runs z.w 5 (at_with k c d) (at_with k1 t.0 d) (λ q. let ts = light_test_some in absurd (omega (arith, q, ts))) t.2) in
             let way2 = on runs z.w (l + 1) (m + 5) 0 1 s0 (at_with k1 t.0 d) (at_with k15 save.0 d) way1 (of runs z.w 1 _ _ save.2) in
             let way3 = on runs z.w (l + 1 + 0) (m + 5 + 1) 0 (length locals) s0 (at_with k15 save.0 d) (at_with kb clear.0 d) way2 (of runs z.w (length locals) _ _ (subst (λ y. Reaches z.w (length locals) (at_with k15 save.0 d) (at_with y clear.0 d)) len clear.2)) in

@@ -338,22 +338,22 @@ module _ (runs : RunLaws) (compose : RunsCompose) (W E : Type 0) (Outer : W → 
 
   -- an answer goes to a place in memory
   pub finishes : (place : CExpr) (v : Value) (rest : CStmts) (work : List Work) (t : Ty) → Fits (shapes z.p.unit) (store_typing z.p.unit objects) t v → c.regs 2 ≡ word_of_value W E Outer z objects v → (h : AnswerStands (code_text W E Outer z) a.function a.facts k place t) → (made sc h.before place).register ≡ None
-      → Block (code_text W E Outer z) a.function h.behind (k + length (answer_code sc h.before place)) debt rest (λ fs to left. Goes (code_text W E Outer z) a others work fs to left)
+      → Block (code_text W E Outer z) a.function h.after (k + length (answer_code sc h.before place)) debt rest (λ fs to left. Goes (code_text W E Outer z) a others work fs to left)
       → AreLiveAtPlace a.live others place rest work → GoesOn W E Outer z debt here (at_with k c d) (store (units 0) place v rest work here)
   finishes place v rest work t fits is h stands block live =
       let same : answer_code sc h.before place ≡ access_code (λ b y. Sw 2 b y) 8 ((made sc h.before place).place 8) = ap (λ o. stored_code 2 8 o (made sc h.before place).place) stands in
       let shallow = h.there.shallow in
       let few = h.there.few in
       let canonical = word_same (shapes z.p.unit) (map typed_of z.p.unit.globals) z.a.globals z.a.heap objects objects (λ path t h. refl) (rest_of (unit_scope z.p.unit)) (rest_of sc) (end_of W E Outer z []) (end_of W E Outer z (g ∷ fs)) t v fits in
-      store_in runs compose W E Outer z jumps straight held typing exprs objects gv hv hw g fs world calls answer c d a others st r waits 0 debt debt 8 2 k (units 0) here (at_with k c d) place t v rest work h.before h.behind h.fewer becomes (none runs z.w (at_with k c d))
+      store_in runs compose W E Outer z jumps straight held typing exprs objects gv hv hw g fs world calls answer c d a others st r waits 0 debt debt 8 2 k (units 0) here (at_with k c d) place t v rest work h.before h.after h.fewer becomes (none runs z.w (at_with k c d))
       (omega arith) (omega arith) (omega (arith, few)) (omega (arith, few)) (omega arith) (omega arith) (omega (arith, shallow)) (omega arith) (λ q. absurd (omega (arith, q))) (λ q. absurd (omega (arith, q)))
       (λ b kept. like_read b.regs c.regs 2 (kept.below 2 (λ q. absurd (omega (arith, q))) (λ q. absurd (omega (arith, q))) (omega arith))) (read_is c.regs 2 (λ q. absurd (omega (arith, q))) ∙ is ∙ sym canonical) fits h.there.left stands
-      (subst (CodeAt z.w k) same h.code) (subst (λ is. Block (code_text W E Outer z) a.function h.behind (k + length is) debt rest (λ fs to left. Goes (code_text W E Outer z) a others work fs to left)) same block) live
+      (subst (CodeAt z.w k) same h.code) (subst (λ is. Block (code_text W E Outer z) a.function h.after (k + length is) debt rest (λ fs to left. Goes (code_text W E Outer z) a others work fs to left)) same block) live
     where
       canonical_word : word_of_value W E Outer z objects v ≡ word_of_scalar sc (bases W E Outer z objects (g ∷ fs)) v
       canonical_word = sym (word_same (shapes z.p.unit) (map typed_of z.p.unit.globals) z.a.globals z.a.heap objects objects (λ path t h. refl) (rest_of (unit_scope z.p.unit)) (rest_of sc) (end_of W E Outer z []) (end_of W E Outer z (g ∷ fs)) t v fits)
 
-      becomes : IsKnown runs compose W E Outer z jumps straight held typing exprs objects gv hv hw g fs world calls answer c d a others st r waits place v h.behind
+      becomes : IsKnown runs compose W E Outer z jumps straight held typing exprs objects gv hv hw g fs world calls answer c d a others st r waits place v h.after
       becomes l b placed facts =
-          facts_within sc (bases W E Outer z objects (g ∷ fs)) h.behind (answered_facts sc a.facts place) (write here.state l v) b h.later
+          facts_within sc (bases W E Outer z objects (g ∷ fs)) h.after (answered_facts sc a.facts place) (write here.state l v) b h.later
           (answer_holds sc (bases W E Outer z objects (g ∷ fs)) place (stored_facts (typed_of_expr sc.env place) a.facts) here.state (write here.state l v) placed.units l b h.there.left.place placed.found (placed.register ∙ is ∙ canonical_word ∙ sym placed.is) facts)

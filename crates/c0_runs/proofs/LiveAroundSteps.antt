@@ -12,7 +12,7 @@ use Rattle.c0_meaning.specs.Evaluation.{costs, at_no_cost, paying, variable_loca
 use Rattle.c0_meaning.specs.Running.{Work, act_on, finish, again, leave, begin, push}
 use Rattle.c0_expr_code.specs.Reads.{Covers}
 use Rattle.c0_expr_code.specs.declared.facts.Facts.{Facts}
-use Rattle.c0_stmt_code.specs.Code.{behind_stmt, tested_facts, stmt_code}
+use Rattle.c0_stmt_code.specs.Code.{facts_behind_stmt, tested_facts, stmt_code}
 use Rattle.c0_stmt_code.specs.Live.{is_variable, live_at_place, are_live}
 use Rattle.c0_runs.specs.Ahead.{Activation, Text, Block, Ahead, knowing, looped_code, needs, WaitingAreLive, AllAreLive}
 use Rattle.c0_runs.proofs.WorkAsCode.{Goes, or_left, or_right}
@@ -96,14 +96,14 @@ with_live a live = record { function = a.function; to = a.to; live = live; facts
 -- the code ahead doesn't depend on which variables are live
 block_mapped : (x : Text) (f : CFunction) (p q : Facts → ℕ → ℕ → Type 0) → ((fs : Facts) (to left : ℕ) → p fs to left → q fs to left) → (fs : Facts) (k debt : ℕ) (ss : CStmts) → Block x f fs k debt ss p → Block x f fs k debt ss q
 block_mapped x f p q on fs k debt done h = (h.0, h.1, h.2, h.3, h.4, h.5, h.6, on h.0 h.3 h.4 h.7)
-block_mapped x f p q on fs k debt (next t rest) h = (h.0, block_mapped x f p q on (behind_stmt (x.scope f) fs t) (k + length (stmt_code (x.scope f) fs x.links t)) debt rest h.1)
+block_mapped x f p q on fs k debt (next t rest) h = (h.0, block_mapped x f p q on (facts_behind_stmt (x.scope f) fs t) (k + length (stmt_code (x.scope f) fs x.links t)) debt rest h.1)
 
 ahead_with : (x : Text) (a : Activation) (others : List Activation) (live : ℕ → Bool) (work : List Work) (k debt : ℕ) → Ahead x (a ∷ others) k debt work → Ahead x (with_live a live ∷ others) k debt work
 ahead_with x a others live [] k debt h = absurd h
 ahead_with x a others live (act_on t rest ∷ work) k debt h = (
   h.0,
   block_mapped x a.function (λ fs to left. Goes x a others work fs to left) (λ fs to left. Goes x (with_live a live) others work fs to left)
-      (λ fs to left y. ahead_with x (knowing a fs) others live work to left y) (behind_stmt (x.scope a.function) a.facts t) (k + length (stmt_code (x.scope a.function) a.facts x.links t)) debt rest h.1,
+      (λ fs to left y. ahead_with x (knowing a fs) others live work to left y) (facts_behind_stmt (x.scope a.function) a.facts t) (k + length (stmt_code (x.scope a.function) a.facts x.links t)) debt rest h.1,
 )
 ahead_with x a others live (again t body rest ∷ work) k debt h = (
   h.0,

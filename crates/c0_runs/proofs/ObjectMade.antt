@@ -242,7 +242,7 @@ module _ (runs : RunLaws) (compose : RunsCompose) (W E : Type 0) (Outer : W → 
           there = record { left = left; shallow = shallow; few = few };
           before = renewed a.facts;
           fewer = within_itself (renewed a.facts);
-          behind = behind_object p;
+          after = behind_object p;
           later = object_within sc.in_registers (typed_of_expr sc.env p) a.facts;
           code = (back z.w k first_part (Jal (code_text W E Outer z).links.new_object ∷ answer_code sc (renewed a.facts) p) code).1;
         },

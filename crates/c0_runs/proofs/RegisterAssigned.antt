@@ -16,7 +16,7 @@ use Rattle.c0_meaning.specs.Addresses.{words_to_part}
 use Rattle.c0_meaning.specs.Sound.{shapes}
 use Rattle.c0_meaning.specs.Limits.{words_of_frame}
 use Rattle.c0_meaning.specs.Expression.{is_lvalue}
-use Rattle.c0_meaning.specs.Value.{locals, Location, Value}
+use Rattle.c0_meaning.specs.Value.{locals, Value}
 use Rattle.c0_meaning.specs.Value as value
 use Rattle.c0_meaning.specs.State.{Frame, write}
 use Rattle.c0_meaning.specs.Statement.{MAX_NEED, assign_need}

@@ -14,7 +14,7 @@ use Rattle.std.proofs.lemmas.Bool.{and_parts}
 use Rattle.c0_typed.specs.Leaf.{are_calling, are_free_of_calls, calls_in, is_calling, is_free_of_calls}
 use Rattle.c0_expr_code.specs.declared.facts.Facts.{Facts}
 use Rattle.c0_expr_code.specs.Facts.{IsWithin}
-use Rattle.c0_stmt_code.specs.Code.{skip, stmt_code, stmts_code, behind_stmt, behind_stmts}
+use Rattle.c0_stmt_code.specs.Code.{skip, stmt_code, stmts_code, facts_behind_stmt, facts_behind_stmts}
 use Rattle.c0_runs.specs.Ahead.{Activation, Text, body_env, knowing, MAX_NODES, Skips, Block, Ahead}
 use Rattle.c0_runs.proofs.FactsBehind.{within_itself}
 use Rattle.c0_runs.proofs.RunStretches.{Stretch, none, on, within, away}
@@ -59,13 +59,13 @@ back w m (i ∷ a) b g = let e : m + 1 + length a ≡ m + length (i ∷ a) = ome
 module _ (x : Text) (f : CFunction) (follows : Facts → ℕ → ℕ → Type 0) where
   -- statements stand at a word, and jumps behind them lead to what follows, by some of what is known there
   pub block_of : (ss : CStmts) (fs : Facts) (k n to left debt : ℕ) → AreNumbered (body_env x f) ss → stmts_nodes ss ≤ MAX_NODES → ((x.scope f).in_registers ≡ true → IsTrue (are_free_of_calls ss)) → (IsTrue (are_calling ss) → calls_in f.body ≡ true) → CodeAt x.w k (stmts_code (x.scope f) fs x.links ss)
-      → Skips x.w n (k + length (stmts_code (x.scope f) fs x.links ss)) to → debt ≡ n + left → (known : Facts) → IsWithin known (behind_stmts (x.scope f) fs ss) → follows known to left → Block x f fs k debt ss follows
+      → Skips x.w n (k + length (stmts_code (x.scope f) fs x.links ss)) to → debt ≡ n + left → (known : Facts) → IsWithin known (facts_behind_stmts (x.scope f) fs ss) → follows known to left → Block x f fs k debt ss follows
   block_of done fs k n to left debt typed few free calls code skips e known w h = (known, w, n, to, left, e, subst (λ y. Skips x.w n y to) (omega arith) skips, h)
   block_of (next t rest) fs k n to left debt typed few free calls code skips e known w h =
       let g = first_typed (body_env x f) t rest typed in
-      let le : k + length (stmt_code (x.scope f) fs x.links t ++ stmts_code (x.scope f) (behind_stmt (x.scope f) fs t) x.links rest) ≡ k + length (stmt_code (x.scope f) fs x.links t) + length (stmts_code (x.scope f) (behind_stmt (x.scope f) fs t) x.links rest) = omega (arith, length-append (stmt_code (x.scope f) fs x.links t) (stmts_code (x.scope f) (behind_stmt (x.scope f) fs t) x.links rest)) in (
-        record { typed = g.0; few = omega (arith, few); free = λ e. (and_parts (is_free_of_calls t) (are_free_of_calls rest) (free e)).0; calls = λ e. calls (or_left (is_calling t) (are_calling rest) e); code = front x.w k (stmt_code (x.scope f) fs x.links t) (stmts_code (x.scope f) (behind_stmt (x.scope f) fs t) x.links rest) code },
-        block_of rest (behind_stmt (x.scope f) fs t) (k + length (stmt_code (x.scope f) fs x.links t)) n to left debt g.1 (omega (arith, few)) (λ e. (and_parts (is_free_of_calls t) (are_free_of_calls rest) (free e)).1) (λ e. calls (or_right (is_calling t) (are_calling rest) e)) (back x.w k (stmt_code (x.scope f) fs x.links t) (stmts_code (x.scope f) (behind_stmt (x.scope f) fs t) x.links rest) code) (subst (λ y. Skips x.w n y to) le skips) e known w h,
+      let le : k + length (stmt_code (x.scope f) fs x.links t ++ stmts_code (x.scope f) (facts_behind_stmt (x.scope f) fs t) x.links rest) ≡ k + length (stmt_code (x.scope f) fs x.links t) + length (stmts_code (x.scope f) (facts_behind_stmt (x.scope f) fs t) x.links rest) = omega (arith, length-append (stmt_code (x.scope f) fs x.links t) (stmts_code (x.scope f) (facts_behind_stmt (x.scope f) fs t) x.links rest)) in (
+        record { typed = g.0; few = omega (arith, few); free = λ e. (and_parts (is_free_of_calls t) (are_free_of_calls rest) (free e)).0; calls = λ e. calls (or_left (is_calling t) (are_calling rest) e); code = front x.w k (stmt_code (x.scope f) fs x.links t) (stmts_code (x.scope f) (facts_behind_stmt (x.scope f) fs t) x.links rest) code },
+        block_of rest (facts_behind_stmt (x.scope f) fs t) (k + length (stmt_code (x.scope f) fs x.links t)) n to left debt g.1 (omega (arith, few)) (λ e. (and_parts (is_free_of_calls t) (are_free_of_calls rest) (free e)).1) (λ e. calls (or_right (is_calling t) (are_calling rest) e)) (back x.w k (stmt_code (x.scope f) fs x.links t) (stmts_code (x.scope f) (facts_behind_stmt (x.scope f) fs t) x.links rest) code) (subst (λ y. Skips x.w n y to) le skips) e known w h,
       )
 
 -- where the rest of a block and then what is left to do stand ahead, by some of what is known

@@ -17,7 +17,7 @@ use Rattle.c0_expr_code.specs.Facts.{IsWithin}
 use Rattle.c0_expr_code.specs.Scope.{Scope}
 use Rattle.c0_expr_code.specs.Reads.{reads, Covers}
 use Rattle.c0_stmt_code.specs.Live.{live_at_place, is_live, are_live}
-use Rattle.c0_stmt_code.specs.Code.{Links, skip, answer_code, answered_facts, behind_stmt, tested_facts, told_facts, turn_facts, while_code, stmt_code, stmts_code, return_code}
+use Rattle.c0_stmt_code.specs.Code.{Links, skip, answer_code, answered_facts, facts_behind_stmt, tested_facts, told_facts, turn_facts, while_code, stmt_code, stmts_code, return_code}
 
 -- a function that is under way, the word of the code to which it returns, which of its variables stand in the machine, and what is known of them
 pub record Activation : Type 0 where
@@ -61,13 +61,13 @@ pub record StatementStands (x : Text) (f : CFunction) (fs : Facts) (k : ℕ) (t 
   pub calls : IsTrue (is_calling t) → calls_in f.body ≡ true
   pub code : CodeAt x.w k (stmt_code (x.scope f) fs x.links t)
 
--- Statements of a function stand at a word, each behind the one before it, by what is known there. Behind the last, jumps lead to where `next` holds
--- with some of what is known then. `debt` is how many jumps are ahead in all, those of `next` among them.
-abbrev pub Block : Text → CFunction → Facts → (at debt : ℕ) → CStmts → (next : Facts → ℕ → ℕ → Type 0) → Type 0
+-- Statements of a function stand at a word, each behind the one before it, by what is known there. Behind the last, jumps lead to where `follows`
+-- holds with some of what is known then. `debt` is how many jumps are ahead in all, those of `follows` among them.
+abbrev pub Block : Text → CFunction → Facts → (at debt : ℕ) → CStmts → (follows : Facts → ℕ → ℕ → Type 0) → Type 0
 Block x f fs k debt done follows =
     (known : Facts) × IsWithin known fs × (n : ℕ) × (to : ℕ) × (left : ℕ) × (debt ≡ n + left) × Skips x.w n k to × follows known to left
 Block x f fs k debt (next t rest) follows =
-    StatementStands x f fs k t × Block x f (behind_stmt (x.scope f) fs t) (k + length (stmt_code (x.scope f) fs x.links t)) debt rest follows
+    StatementStands x f fs k t × Block x f (facts_behind_stmt (x.scope f) fs t) (k + length (stmt_code (x.scope f) fs x.links t)) debt rest follows
 
 -- a place that an answer of a type goes to, which is found with free registers from 8 on
 pub record HasAnswerPlace (x : Text) (f : CFunction) (place : CExpr) (t : Ty) : Type 0 where
@@ -75,21 +75,21 @@ pub record HasAnswerPlace (x : Text) (f : CFunction) (place : CExpr) (t : Ty) : 
   pub shallow : new_need place ≤ MAX_NEED
   pub few : nodes place ≤ MAX_NODES
 
--- An answer's place stands at a word, by some of what is known there; and what is known behind it is some of what is known once the answer has
--- gone there.
+-- An answer's place stands at a word, by some of what is known before; and what is known after is some of what is known once the answer has gone
+-- there.
 pub record AnswerStands (x : Text) (f : CFunction) (fs : Facts) (k : ℕ) (place : CExpr) (t : Ty) : Type 0 where
   pub there : HasAnswerPlace x f place t
   pub before : Facts
   pub fewer : IsWithin before fs
-  pub behind : Facts
-  pub later : IsWithin behind (answered_facts (x.scope f) fs place)
+  pub after : Facts
+  pub later : IsWithin after (answered_facts (x.scope f) fs place)
   pub code : CodeAt x.w k (answer_code (x.scope f) before place)
 
 -- where an answer goes: to a place of the caller, whose code and statements behind it stand where the callee returns to; or out
 abbrev pub Awaits : Text → List Activation → (to debt : ℕ) → Ty → Target → List Work → (List Activation → ℕ → ℕ → Type 0) → Type 0
 Awaits x (a ∷ rest) to debt t (into place behind) work follows =
     (h : AnswerStands x a.function a.facts to place t)
-    × Block x a.function h.behind (to + length (answer_code (x.scope a.function) h.before place)) debt behind (λ fs. follows (knowing a fs ∷ rest))
+    × Block x a.function h.after (to + length (answer_code (x.scope a.function) h.before place)) debt behind (λ fs. follows (knowing a fs ∷ rest))
 Awaits x [] to debt t outward [] follows = to ≡ x.back
 Awaits x activations to debt t target work follows = ⊥
 

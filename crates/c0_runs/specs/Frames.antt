@@ -29,7 +29,7 @@ making_code st calling cleared params locals = save_code st calling ++ (params_c
 
 -- a law: that code makes the frame, in at most 3 steps for each parameter, 3 for each word of the locals, and 6
 abbrev pub FramesAreMade : World → Type 0
-FramesAreMade w = (st : FrameSetting) (e : ℕ) → IsFreeFrame w st e → (calling : Bool) (cleared : ℕ → Bool) (params locals k : ℕ) (c : Contents) (d : Behind) → d.pending ≡ Idle
-    → 3 + params + locals ≡ st.frame → params ≤ 8 → c.regs 29 ≡ 4 * e → CodeAt w k (making_code st calling cleared params locals)
+FramesAreMade w = (st : FrameSetting) (e : ℕ) → IsFreeFrame w st e → (calling : Bool) (cleared : ℕ → Bool) (params locals k : ℕ) (c : Contents) (d : Behind)
+    → d.pending ≡ Idle → 3 + params + locals ≡ st.frame → params ≤ 8 → c.regs 29 ≡ 4 * e → CodeAt w k (making_code st calling cleared params locals)
     → (c' : Contents) × FrameMade st e calling cleared params locals c c'
     × Reaches w (3 * params + 3 * locals + 6) (at_with k c d) (at_with (k + length (making_code st calling cleared params locals)) c' d)

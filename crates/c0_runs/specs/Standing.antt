@@ -16,7 +16,7 @@ use Rattle.c0_meaning.specs.Evaluation.{costs, values_of}
 use Rattle.c0_meaning.specs.Running.{Target, into, outward, Work, act_on, finish, again, leave, begin, Step, Go, Stop, work_step}
 use Rattle.c0_meaning.specs.TypedState.{types_of, Fits, AllFit, store_typing, IsTypedWith, AreDeclared, IsScalar}
 use Rattle.c0_typed.specs.Leaf.{calls_in}
-use Rattle.c0_expr_code.specs.Facts.{IsWithin, SureHold, facts_called as forgetting}
+use Rattle.c0_expr_code.specs.Facts.{IsWithin, SureHold, facts_called}
 use Rattle.c0_expr_code.specs.Scope.{Scope, scope_of, exit_of}
 use Rattle.c0_expr_runs.specs.Bases.{Bases, words_of_all, locals_start, word_of_scalar, RegionHeld, LocalsHeld}
 use Rattle.c0_expr_runs.specs.Relation.{RegistersHold}
@@ -59,17 +59,18 @@ module _ (W E : Type 0) (Outer : W → Contents → Behind → Type 0) (z : Setu
   -- the variables of the newest of these frames stand in memory or in registers, as far as they are live
   abbrev pub VariablesHeld : List Ty → (live : ℕ → Bool) → (regs memory : ℕ → ℕ) → CFunction → List Frame → Type 0
   VariablesHeld objects live regs memory f frames =
-      LocalsHeld (scope f) (bases objects frames) live (if (scope f).in_registers then regs else memory) (locals_start (scope f) (bases objects frames)) (types_of (scope f).env.locals) (variables_of frames)
+      LocalsHeld (scope f) (bases objects frames) live (if (scope f).in_registers then regs else memory) (locals_start (scope f) (bases objects frames))
+      (types_of (scope f).env.locals) (variables_of frames)
 
-  -- a function that waits for an answer: its frame stands in memory, and begins with its return address. Nothing is known of registers, and those
-  -- variables aren't null that surely aren't.
+  -- A function that waits for an answer: its frame stands in memory, and begins with its return address. What is known of its variables is known
+  -- behind a call too, so it says nothing of registers; and those variables aren't null of which that is known.
   pub record Waits (objects : List Ty) (memory : ℕ → ℕ) (a : Activation) (g : Frame) (frames : List Frame) : Type 0 where
     pub is : slice_get z.p.unit.functions g.function ≡ Some a.function
     pub in_frame : (scope a.function).in_registers ≡ false
     pub calls : calls_in a.function.body ≡ true
     pub return_at : memory (end_of frames) ≡ 4 * a.to
     pub variables : VariablesHeld objects a.live memory memory a.function (g ∷ frames)
-    pub forgotten : IsWithin a.facts (forgetting a.facts)
+    pub forgotten : IsWithin a.facts (facts_called a.facts)
     pub sure : SureHold a.facts g.variables
 
   -- the functions that wait, the newest first
@@ -93,9 +94,8 @@ module _ (W E : Type 0) (Outer : W → Contents → Behind → Type 0) (z : Setu
   UnderWay objects c (a ∷ rest) (g ∷ frames) = FunctionRuns objects c a g frames × Waiting objects c.memory rest frames
   UnderWay objects c activations frames = ⊥
 
-  -- the globals and the heap stand in memory, typed, as far as it is used; so do the layer's variables that the unit knows; registers 28 and 30 are
-  -- the
-  -- globals' address and the stack's end; and the rest of the machine stands for the world's value
+  -- the globals stand in memory, and the heap as far as it is used, typed; so do the layer's variables that the unit knows; registers 28 and 30 are
+  -- the globals' address and the stack's end; and the rest of the machine stands for the world's value
   pub record ConfigurationStands (objects : List Ty) (h : Configuration W E) (c : Contents) (d : Behind) : Type 0 where
     pub typed : IsTypedWith z.p.unit objects h.state
     pub declared : AreDeclared (shapes z.p.unit) objects
@@ -184,9 +184,11 @@ module _ (W E : Type 0) (Outer : W → Contents → Behind → Type 0) (z : Setu
   abbrev pub IsGone : (debt : ℕ) → Configuration W E → CodeState → Cost → List Work → Configuration W E → Type 0
   IsGone debt h s cost work h' = (t : CodeState) × (left : ℕ) × Led z.w cost.own debt left h h' s t × Simulated left work h' t
 
-  -- A step is a call statement of a primitive: its own units have led the machine to the primitive's entry, with its arguments and the word to which it returns, and no more than the heap is used. And
-  -- wherever it comes back, with its answer in register 2, while the rest of the machine stands for the world's value after it, the step is done.
-  pub record IsCalling (debt : ℕ) (item : Work) (h : Configuration W E) (s : CodeState) (cost : Cost) (work : List Work) (h' : Configuration W E) : Type 0 where
+  -- A step is a call statement of a primitive: its own units have led the machine to the primitive's entry, with its arguments and the word to which
+  -- it returns, and of the heap no more is used than there is. And wherever it comes back, with its answer in register 2, while the rest of the
+  -- machine stands for the world's value after it, the step is done.
+  pub record IsCalling (debt : ℕ) (item : Work) (h : Configuration W E) (s : CodeState) (cost : Cost) (work : List Work) (h' : Configuration W E)
+      : Type 0 where
     pub number : ℕ
     pub row : CPrimitive
     pub args : Values

@@ -21,7 +21,7 @@ use Rattle.c0_expr_code.specs.FrameSetting.{FrameSetting, frame_back, frame_sett
 use Rattle.c0_expr_code.specs.Code.{register_of_variable, constant_code, access_code, value_code}
 use Rattle.c0_expr_code.specs.Test.{test_code}
 use Rattle.c0_stmt_code.specs.Live.{is_cleared}
-use Rattle.c0_stmt_code.specs.Code.{Links, callee_index, answer_code, args_code, otherwise, otherwise_at, turn_code, stmt_code, stmts_code, frame_slot, end_code, large_code, stack_test, save_code, restore_code, params_code, zeros_code, zeros_loop, locals_code, clear_code, frame_entry, frame_return, register_entry, register_return, entry_code, exit_code, return_code, body_code as code_of_body, zero_code, clear_one, behind_stmt, behind_stmts, first_facts, told_facts, turn_facts}
+use Rattle.c0_stmt_code.specs.Code.{Links, callee_index, answer_code, args_code, otherwise, otherwise_at, turn_code, stmt_code, stmts_code, frame_slot, end_code, large_code, stack_test, save_code, restore_code, params_code, zeros_code, zeros_loop, locals_code, clear_code, frame_entry, frame_return, register_entry, register_return, entry_code, exit_code, return_code, body_code as code_of_body, zero_code, clear_one, facts_behind_stmt, facts_behind_stmts, first_facts, told_facts, turn_facts}
 use Rattle.c0_stmt_code.proofs.PremisesOfFunctions.{LengthsFit}
 use Rattle.c0_stmt_code.proofs.ShortStatements.{access_length, stmts_length}
 
@@ -62,8 +62,8 @@ module _ (sc : Scope) (x y : Links) where
     stmts_same fs done = refl
     stmts_same fs (next s rest) =
         let e = stmt_same fs s in
-        let r = stmts_same (behind_stmt sc fs s) rest in
-        omega (arith, e, r, length-append (stmt_code sc fs x s) (stmts_code sc (behind_stmt sc fs s) x rest), length-append (stmt_code sc fs y s) (stmts_code sc (behind_stmt sc fs s) y rest))
+        let r = stmts_same (facts_behind_stmt sc fs s) rest in
+        omega (arith, e, r, length-append (stmt_code sc fs x s) (stmts_code sc (facts_behind_stmt sc fs s) x rest), length-append (stmt_code sc fs y s) (stmts_code sc (facts_behind_stmt sc fs s) y rest))
 
   body_same : (params : ℕ) (b : CBody) → length (code_of_body sc x params b) ≡ length (code_of_body sc y params b)
   body_same params (code locals stmts answer) =
@@ -71,10 +71,10 @@ module _ (sc : Scope) (x y : Links) where
       omega (
         arith,
         e,
-        length-append (entry_code (frame_setting sc (first_facts sc params)) (is_cleared locals stmts answer) params (length locals) (all_words sc.env.structs (map typed_of locals)) (are_calling stmts)) (stmts_code sc (first_facts sc params) x stmts ++ return_code sc (behind_stmts sc (first_facts sc params) stmts) (are_calling stmts) answer),
-        length-append (stmts_code sc (first_facts sc params) x stmts) (return_code sc (behind_stmts sc (first_facts sc params) stmts) (are_calling stmts) answer),
-        length-append (entry_code (frame_setting sc (first_facts sc params)) (is_cleared locals stmts answer) params (length locals) (all_words sc.env.structs (map typed_of locals)) (are_calling stmts)) (stmts_code sc (first_facts sc params) y stmts ++ return_code sc (behind_stmts sc (first_facts sc params) stmts) (are_calling stmts) answer),
-        length-append (stmts_code sc (first_facts sc params) y stmts) (return_code sc (behind_stmts sc (first_facts sc params) stmts) (are_calling stmts) answer),
+        length-append (entry_code (frame_setting sc (first_facts sc params)) (is_cleared locals stmts answer) params (length locals) (all_words sc.env.structs (map typed_of locals)) (are_calling stmts)) (stmts_code sc (first_facts sc params) x stmts ++ return_code sc (facts_behind_stmts sc (first_facts sc params) stmts) (are_calling stmts) answer),
+        length-append (stmts_code sc (first_facts sc params) x stmts) (return_code sc (facts_behind_stmts sc (first_facts sc params) stmts) (are_calling stmts) answer),
+        length-append (entry_code (frame_setting sc (first_facts sc params)) (is_cleared locals stmts answer) params (length locals) (all_words sc.env.structs (map typed_of locals)) (are_calling stmts)) (stmts_code sc (first_facts sc params) y stmts ++ return_code sc (facts_behind_stmts sc (first_facts sc params) stmts) (are_calling stmts) answer),
+        length-append (stmts_code sc (first_facts sc params) y stmts) (return_code sc (facts_behind_stmts sc (first_facts sc params) stmts) (are_calling stmts) answer),
       )
   body_same params (asm text span words) = refl
 
@@ -208,7 +208,7 @@ module _ (sc : Scope) (x : Links) (fit : LengthsFit sc) where
   body_length params (code locals stmts answer) =
       let e = entry_length (is_cleared locals stmts answer) params (length locals) (all_words sc.env.structs (map typed_of locals)) (are_calling stmts) in
       let s = stmts_length sc x fit (first_facts sc params) stmts in
-      let v = fit.value (behind_stmts sc (first_facts sc params) stmts) answer 2 8 in
+      let v = fit.value (facts_behind_stmts sc (first_facts sc params) stmts) answer 2 8 in
       let some = fit.place (first_facts sc params) answer 8 in
       let r = exit_length (are_calling stmts) in
       omega (
@@ -218,9 +218,9 @@ module _ (sc : Scope) (x : Links) (fit : LengthsFit sc) where
         v,
         some,
         r,
-        length-append (entry_code st (is_cleared locals stmts answer) params (length locals) (all_words sc.env.structs (map typed_of locals)) (are_calling stmts)) (stmts_code sc (first_facts sc params) x stmts ++ return_code sc (behind_stmts sc (first_facts sc params) stmts) (are_calling stmts) answer),
-        length-append (stmts_code sc (first_facts sc params) x stmts) (return_code sc (behind_stmts sc (first_facts sc params) stmts) (are_calling stmts) answer),
-        length-append (value_code sc (behind_stmts sc (first_facts sc params) stmts) answer 2 8) (exit_code st (are_calling stmts)),
+        length-append (entry_code st (is_cleared locals stmts answer) params (length locals) (all_words sc.env.structs (map typed_of locals)) (are_calling stmts)) (stmts_code sc (first_facts sc params) x stmts ++ return_code sc (facts_behind_stmts sc (first_facts sc params) stmts) (are_calling stmts) answer),
+        length-append (stmts_code sc (first_facts sc params) x stmts) (return_code sc (facts_behind_stmts sc (first_facts sc params) stmts) (are_calling stmts) answer),
+        length-append (value_code sc (facts_behind_stmts sc (first_facts sc params) stmts) answer 2 8) (exit_code st (are_calling stmts)),
       )
   body_length params (asm text span words) =
       let t = test_length 1 in

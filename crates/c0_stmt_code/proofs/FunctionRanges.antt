@@ -27,7 +27,7 @@ use Rattle.c0_expr_code.specs.FrameSetting.{FrameSetting, frame_back, frame_sett
 use Rattle.c0_expr_code.specs.Code.{AddressingMode, is_near, low, high, register_of_variable, constant_code, access_code, store_code, operand_code, operand_register, made, value_code}
 use Rattle.c0_expr_code.specs.Test.{test_code}
 use Rattle.c0_stmt_code.specs.Live.{is_cleared}
-use Rattle.c0_stmt_code.specs.Code.{Links, callee_index, skip, stored_code, answer_code, assigned_code, args_code, otherwise, otherwise_at, back, turn_code, stmt_code, stmts_code, frame_slot, end_code, large_code, stack_test, save_code, restore_code, params_code, zeros_code, zeros_loop, locals_code, clear_code, frame_entry, frame_return, register_entry, register_return, entry_code, exit_code, return_code, body_code as code_of_body, zero_code, clear_one, behind_stmt, behind_stmts, first_facts, told_facts, turn_facts}
+use Rattle.c0_stmt_code.specs.Code.{Links, callee_index, skip, stored_code, answer_code, assigned_code, args_code, otherwise, otherwise_at, back, turn_code, stmt_code, stmts_code, frame_slot, end_code, large_code, stack_test, save_code, restore_code, params_code, zeros_code, zeros_loop, locals_code, clear_code, frame_entry, frame_return, register_entry, register_return, entry_code, exit_code, return_code, body_code as code_of_body, zero_code, clear_one, facts_behind_stmt, facts_behind_stmts, first_facts, told_facts, turn_facts}
 use Rattle.c0_stmt_code.proofs.RegisterVariables.{is_small}
 use Rattle.c0_stmt_code.specs.Emit.{IsEmittable, AreEmittable, IsEmittableBody}
 use Rattle.c0_stmt_code.specs.Ranges.{AreNear}
@@ -121,7 +121,7 @@ module _ (sc : Scope) (x : Links) (codes : CodesInRange) (exits : HasNearExits s
 
     statements : (fs : Facts) (ss : CStmts) → AreEmittable ss → Fine (stmts_code sc fs x ss)
     statements fs done h = none
-    statements fs (next s rest) h = both (stmt_code sc fs x s) (stmts_code sc (behind_stmt sc fs s) x rest) (statement fs s h.0) (statements (behind_stmt sc fs s) rest h.1)
+    statements fs (next s rest) h = both (stmt_code sc fs x s) (stmts_code sc (facts_behind_stmt sc fs s) x rest) (statement fs s h.0) (statements (facts_behind_stmt sc fs s) rest h.1)
 
   abbrev st : FrameSetting
   st = frame_setting sc nothing_known
@@ -214,10 +214,10 @@ module _ (sc : Scope) (x : Links) (codes : CodesInRange) (exits : HasNearExits s
     pub body_fine : (params : ℕ) (b : CBody) → IsEmittableBody params b → Fine (code_of_body sc x params b)
     body_fine params (code locals stmts ans) h =
         let r = h.1 in
-        both (entry_code st (is_cleared locals stmts ans) params (length locals) (all_words sc.env.structs (map typed_of locals)) (are_calling stmts)) (stmts_code sc (first_facts sc params) x stmts ++ return_code sc (behind_stmts sc (first_facts sc params) stmts) (are_calling stmts) ans)
+        both (entry_code st (is_cleared locals stmts ans) params (length locals) (all_words sc.env.structs (map typed_of locals)) (are_calling stmts)) (stmts_code sc (first_facts sc params) x stmts ++ return_code sc (facts_behind_stmts sc (first_facts sc params) stmts) (are_calling stmts) ans)
         (begins (is_cleared locals stmts ans) params (length locals) (all_words sc.env.structs (map typed_of locals)) (are_calling stmts))
-        (both (stmts_code sc (first_facts sc params) x stmts) (return_code sc (behind_stmts sc (first_facts sc params) stmts) (are_calling stmts) ans) (statements (first_facts sc params) stmts h.0)
-        (both (value_code sc (behind_stmts sc (first_facts sc params) stmts) ans 2 8) (exit_code st (are_calling stmts)) (codes.value sc exits (behind_stmts sc (first_facts sc params) stmts) ans 2 8 (omega arith) (omega (arith, r))) (leaves (are_calling stmts))))
+        (both (stmts_code sc (first_facts sc params) x stmts) (return_code sc (facts_behind_stmts sc (first_facts sc params) stmts) (are_calling stmts) ans) (statements (first_facts sc params) stmts h.0)
+        (both (value_code sc (facts_behind_stmts sc (first_facts sc params) stmts) ans 2 8) (exit_code st (are_calling stmts)) (codes.value sc exits (facts_behind_stmts sc (first_facts sc params) stmts) ans 2 8 (omega arith) (omega (arith, r))) (leaves (are_calling stmts))))
     body_fine params (asm text span ws) h =
         both (stack_test st 1) (asm_code params ws ++ (Jr 31 ∷ [])) (tests_stack 1 (omega arith))
         (both (asm_code params ws) (Jr 31 ∷ []) (both (arguments_code params) (asm_body_code ws) (arguments_fine params) (encoded ws h.1).range) returns_by)

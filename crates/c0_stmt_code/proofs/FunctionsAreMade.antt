@@ -18,7 +18,7 @@ use Rattle.c0_expr_code.specs.FrameSetting.{frame_setting}
 use Rattle.c0_expr_code.specs.Laws.{HaveSameNames, NamesAreEnough}
 use Rattle.c0_expr_code.specs.Node.{NodesAreMade}
 use Rattle.c0_expr_code.specs.Scope.{Scope, exit_of, scope_of}
-use Rattle.c0_stmt_code.specs.Code.{Links, behind_stmts, body_code, entry_code, exit_code, first_facts, function_code, links_of}
+use Rattle.c0_stmt_code.specs.Code.{Links, facts_behind_stmts, body_code, entry_code, exit_code, first_facts, function_code, links_of}
 use Rattle.c0_stmt_code.specs.TypedFunction.{typed_body_code, typed_function_code}
 use Rattle.c0_stmt_code.specs.TypedLaws.{StatementsAreMade}
 use Rattle.c0_stmt_code.proofs.PremisesOfFunctions.{FunctionsAre, given_in, functions_are}
@@ -35,7 +35,7 @@ module _ (statements : StatementsAreMade) (nodes : NodesAreMade) (names : NamesA
   statements_code params locals stmts answer t typed given = λ j.
       entry_code (frame_setting sc (first_facts sc params)) (cleared_same sc.env locals stmts answer j) params (count_same sc locals j) (words_same sc.env.structs locals j) (are_calling stmts)
       ++ (statements sc (first_facts sc params) x env stmts same typed j
-      ++ ((nodes.nodes sc (behind_stmts sc (first_facts sc params) stmts) answer t (given_in names env sc.env same answer t given)).value ANSWER EXPRESSIONS j ++ exit_code (frame_setting sc (first_facts sc params)) (are_calling stmts)))
+      ++ ((nodes.nodes sc (facts_behind_stmts sc (first_facts sc params) stmts) answer t (given_in names env sc.env same answer t given)).value ANSWER EXPRESSIONS j ++ exit_code (frame_setting sc (first_facts sc params)) (are_calling stmts)))
 
 pub function_made : StatementsAreMade → NodesAreMade → NamesAreEnough → NumbersTell → UnitsAreFaultless → (primitives : List CPrimitive) (u : CUnit) (n : ℕ) (f : CFunction) (addresses : CodeAddresses)
     → IsWellFormed primitives u → slice_get u.functions n ≡ Some f

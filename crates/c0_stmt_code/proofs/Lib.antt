@@ -11,3 +11,4 @@ mod TypedReads
 pub mod FunctionsAreMade
 pub mod TypedCanBeEmitted
 pub mod PremisesOfFunctions
+mod FactsEnded

@@ -49,57 +49,36 @@ no_unary Not m = refl
 not_some : (o : Option ℕ) (y : ℕ) → o ≡ None → o ≡ Some y → ⊥
 not_some o y n e = cc
 
+-- so its function keeps its variables in registers, and it is one of the 32
+is_one : (sc : Scope) (fs : Facts) (p : CExpr) (y : ℕ) → (made sc fs p).register ≡ Some y → (sc.in_registers ≡ true) × (y < 32)
+is_one sc fs (var x) y e = by_kind x.kind e
+  where
+    by_form : (b : Bool) → (if b then register_made (register_of_variable x.number) else frame_made (register_holding fs x.number) (λ r. local_address sc x.number)).register ≡ Some y → (b ≡ true) × (y < 32)
+    by_form true q = let h : register_of_variable x.number ≡ y = cc in (refl, omega (arith, h))
+    by_form false q = absurd (cc)
+
+    by_kind : (k : Kind) → (variable_made sc fs k x.number).register ≡ Some y → (sc.in_registers ≡ true) × (y < 32)
+    by_kind Local q = by_form sc.in_registers q
+    by_kind Unresolved q = absurd (cc)
+    by_kind Struct q = absurd (cc)
+    by_kind Field q = absurd (cc)
+    by_kind Global q = absurd (cc)
+    by_kind Function q = absurd (cc)
+    by_kind Primitive q = absurd (cc)
+is_one sc fs (unary s o e) y q = absurd (not_some _ y (no_unary o (made sc fs e)) q)
+is_one sc fs (binary s o a b) y q = absurd (not_some _ y (no_binary sc o (made sc fs a) (made sc (right_facts o (typed_of_expr sc.env a) fs) b)) q)
+is_one sc fs (num s n) y q = absurd (cc)
+is_one sc fs (true_ s) y q = absurd (cc)
+is_one sc fs (false_ s) y q = absurd (cc)
+is_one sc fs (null s) y q = absurd (cc)
+is_one sc fs (field s e f) y q = absurd (cc)
+is_one sc fs (arrow s e f) y q = absurd (cc)
+is_one sc fs (index s e i) y q = absurd (cc)
+is_one sc fs (deref s e) y q = absurd (cc)
+is_one sc fs (address s e) y q = absurd (cc)
+
 pub keeps_them : (sc : Scope) (fs : Facts) (p : CExpr) (y : ℕ) → (made sc fs p).register ≡ Some y → sc.in_registers ≡ true
-keeps_them sc fs (var x) y e = by_kind x.kind e
-  where
-    by_form : (b : Bool) → (if b then register_made (register_of_variable x.number) else frame_made (register_holding fs x.number) (λ r. local_address sc x.number)).register ≡ Some y → b ≡ true
-    by_form true q = refl
-    by_form false q = absurd (cc)
+keeps_them sc fs p y e = (is_one sc fs p y e).0
 
-    by_kind : (k : Kind) → (variable_made sc fs k x.number).register ≡ Some y → sc.in_registers ≡ true
-    by_kind Local q = by_form sc.in_registers q
-    by_kind Unresolved q = absurd (cc)
-    by_kind Struct q = absurd (cc)
-    by_kind Field q = absurd (cc)
-    by_kind Global q = absurd (cc)
-    by_kind Function q = absurd (cc)
-    by_kind Primitive q = absurd (cc)
-keeps_them sc fs (unary s o e) y q = absurd (not_some _ y (no_unary o (made sc fs e)) q)
-keeps_them sc fs (binary s o a b) y q = absurd (not_some _ y (no_binary sc o (made sc fs a) (made sc (right_facts o (typed_of_expr sc.env a) fs) b)) q)
-keeps_them sc fs (num s n) y q = absurd (cc)
-keeps_them sc fs (true_ s) y q = absurd (cc)
-keeps_them sc fs (false_ s) y q = absurd (cc)
-keeps_them sc fs (null s) y q = absurd (cc)
-keeps_them sc fs (field s e f) y q = absurd (cc)
-keeps_them sc fs (arrow s e f) y q = absurd (cc)
-keeps_them sc fs (index s e i) y q = absurd (cc)
-keeps_them sc fs (deref s e) y q = absurd (cc)
-keeps_them sc fs (address s e) y q = absurd (cc)
-
--- and it is one of the 32
 pub is_small : (sc : Scope) (fs : Facts) (p : CExpr) (y : ℕ) → (made sc fs p).register ≡ Some y → y < 32
-is_small sc fs (var x) y e = by_kind x.kind e
-  where
-    by_form : (b : Bool) → (if b then register_made (register_of_variable x.number) else frame_made (register_holding fs x.number) (λ r. local_address sc x.number)).register ≡ Some y → y < 32
-    by_form true q = let h : register_of_variable x.number ≡ y = cc in omega (arith, h)
-    by_form false q = absurd (cc)
-
-    by_kind : (k : Kind) → (variable_made sc fs k x.number).register ≡ Some y → y < 32
-    by_kind Local q = by_form sc.in_registers q
-    by_kind Unresolved q = absurd (cc)
-    by_kind Struct q = absurd (cc)
-    by_kind Field q = absurd (cc)
-    by_kind Global q = absurd (cc)
-    by_kind Function q = absurd (cc)
-    by_kind Primitive q = absurd (cc)
-is_small sc fs (unary s o e) y q = absurd (not_some _ y (no_unary o (made sc fs e)) q)
-is_small sc fs (binary s o a b) y q = absurd (not_some _ y (no_binary sc o (made sc fs a) (made sc (right_facts o (typed_of_expr sc.env a) fs) b)) q)
-is_small sc fs (num s n) y q = absurd (cc)
-is_small sc fs (true_ s) y q = absurd (cc)
-is_small sc fs (false_ s) y q = absurd (cc)
-is_small sc fs (null s) y q = absurd (cc)
-is_small sc fs (field s e f) y q = absurd (cc)
-is_small sc fs (arrow s e f) y q = absurd (cc)
-is_small sc fs (index s e i) y q = absurd (cc)
-is_small sc fs (deref s e) y q = absurd (cc)
-is_small sc fs (address s e) y q = absurd (cc)
+is_small sc fs p y e = (is_one sc fs p y e).1

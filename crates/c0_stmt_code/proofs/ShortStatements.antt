@@ -13,7 +13,7 @@ use Rattle.c0_expr_code.specs.Facts.{facts_called, overwritten, renewed}
 use Rattle.c0_expr_code.specs.Scope.{Scope}
 use Rattle.c0_expr_code.specs.Code.{AddressingMode, is_near, low, high, access_code, constant_code, operand_code, operand_register, made, value_code, register_of_variable}
 use Rattle.c0_expr_code.specs.Test.{test_code}
-use Rattle.c0_stmt_code.specs.Code.{Links, callee_index, answer_code, stored_code, assigned_code, args_code, otherwise, otherwise_at, back, turn_code, stmt_code, stmts_code, behind_stmt, told_facts, turn_facts}
+use Rattle.c0_stmt_code.specs.Code.{Links, callee_index, answer_code, stored_code, assigned_code, args_code, otherwise, otherwise_at, back, turn_code, stmt_code, stmts_code, facts_behind_stmt, told_facts, turn_facts}
 use Rattle.c0_stmt_code.proofs.RegisterVariables.{keeps_them}
 use Rattle.c0_stmt_code.proofs.PremisesOfFunctions.{LengthsFit}
 
@@ -92,8 +92,8 @@ module _ (sc : Scope) (x : Links) (fit : LengthsFit sc) where
     stmts_length fs done = omega arith
     stmts_length fs (next s rest) =
         let n = stmt_length fs s in
-        let m = stmts_length (behind_stmt sc fs s) rest in
-        omega (arith, n, m, length-append (stmt_code sc fs x s) (stmts_code sc (behind_stmt sc fs s) x rest))
+        let m = stmts_length (facts_behind_stmt sc fs s) rest in
+        omega (arith, n, m, length-append (stmt_code sc fs x s) (stmts_code sc (facts_behind_stmt sc fs s) x rest))
 
   assigned_some : (fs : Facts) (p v : CExpr) (o : Option ℕ) → (made sc fs p).register ≡ o → 1 ≤ length (assigned_code o (made sc fs p) (made sc fs v))
   assigned_some fs p v (Some y) e = fit.value_some (keeps_them sc fs p y e) fs v y 8

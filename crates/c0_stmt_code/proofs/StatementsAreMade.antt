@@ -18,7 +18,7 @@ use Rattle.c0_expr_code.specs.Code.{AddressingMode, Made, access_code, constant_
 use Rattle.c0_expr_code.specs.Laws.{HaveSameNames, NamesAreEnough}
 use Rattle.c0_expr_code.specs.Node.{IsSameMade, NodesAreMade, node_made, node_test}
 use Rattle.c0_expr_code.specs.Test.{test_code}
-use Rattle.c0_stmt_code.specs.Code.{Links, assigned_code, callee_index, otherwise, otherwise_at, skip, stored_code, args_code, stmt_code, stmts_code, behind_stmt, told_facts, turn_facts}
+use Rattle.c0_stmt_code.specs.Code.{Links, assigned_code, callee_index, otherwise, otherwise_at, skip, stored_code, args_code, stmt_code, stmts_code, facts_behind_stmt, told_facts, turn_facts}
 use Rattle.c0_stmt_code.specs.TypedCode.{typed_args, typed_otherwise, typed_otherwise_at, typed_stmt_code, typed_stmts_code}
 use Rattle.c0_stmt_code.specs.TypedLaws.{StatementsAreMade}
 use Rattle.c0_stmt_code.proofs.PremisesOfFunctions.{given_in}
@@ -77,7 +77,7 @@ module _ (law : NodesAreMade) (names : NamesAreEnough) (sc : Scope) (x : Links) 
 
     all_same : (fs : Facts) (ss : CStmts) → AreNumbered env ss → stmts_code sc fs x ss ≡ typed_stmts_code (frame_setting sc fs) x (typed_of_stmts sc.env ss)
     all_same fs _ no_statement = refl
-    all_same fs _ (a_statement {s} {rest} h hs) = ap₂ (λ (a b : List Inst). a ++ b) (same fs s h) (all_same (behind_stmt sc fs s) rest hs)
+    all_same fs _ (a_statement {s} {rest} h hs) = ap₂ (λ (a b : List Inst). a ++ b) (same fs s h) (all_same (facts_behind_stmt sc fs s) rest hs)
 
 pub statements_made : NodesAreMade → NamesAreEnough → StatementsAreMade
 statements_made law names sc fs x env ss same h = all_same law names sc x env same fs ss h

@@ -1,18 +1,24 @@
 -- What is known of a function's variables behind a statement.
-use Rattle.std.specs.Prelude.{Bool, false, List, [], ◌∷◌}
-use Rattle.c0_typed.specs.Tree.{TExpr, local, TStmt, assign, call, new, choice, loop, TStmts, done, next}
+use Rattle.std.specs.Prelude.{ℕ, Bool, false, List, [], ◌∷◌, Option, Some, None}
+use Rattle.c0_typed.specs.Tree.{TExpr, TStmt, assign, call, new, choice, loop, TStmts, done, next}
 use Rattle.c0_expr_code.specs.declared.facts.Facts.{Facts}
-use Rattle.c0_expr_code.specs.Facts.{facts_answered, assigned_to, facts_called, facts_followed, renewed}
+use Rattle.c0_expr_code.specs.Facts.{facts_answered, assigned_to, facts_called, facts_followed, renewed, variable_in}
 
 -- a value goes to a place: of a variable that it is nothing is known any more
+abbrev pub kill_variable : Option ℕ → Facts → Facts
+kill_variable None f = f
+kill_variable (Some n) f = assigned_to f n
+
 abbrev pub kill_place : TExpr → Facts → Facts
-kill_place (local n w) f = assigned_to f n
-kill_place p f = f
+kill_place p f = kill_variable (variable_in p) f
 
 -- an answer went from register 2 to a place: of a variable in the frame that it is the word stands in both
+abbrev pub variable_answered : (in_registers : Bool) → Option ℕ → Facts → Facts
+variable_answered false (Some n) f = facts_answered f n
+variable_answered b o f = f
+
 abbrev pub answer_known : (in_registers : Bool) → TExpr → Facts → Facts
-answer_known false (local n w) f = facts_answered f n
-answer_known b p f = f
+answer_known b p f = variable_answered b (variable_in p) f
 
 -- behind expressions one after another
 abbrev pub all_followed : List TExpr → Facts → Facts
@@ -37,13 +43,13 @@ abbrev mutual
   all_changed (next s rest) f = all_changed rest (changed s f)
 
 -- behind a statement, and behind statements
-abbrev pub behind : (in_registers : Bool) → TStmt → Facts → Facts
-behind r (assign p v) f = stored_facts p (facts_followed v f)
-behind r (call k n args p) f = answer_known r p (stored_facts p (facts_called (all_followed args f)))
-behind r (new w p) f = stored_facts p (renewed f)
-behind r (choice t a b) f = all_changed b (all_changed a (facts_followed t f))
-behind r (loop t b) f = facts_followed t (all_changed b f)
+abbrev pub facts_behind : (in_registers : Bool) → TStmt → Facts → Facts
+facts_behind r (assign p v) f = stored_facts p (facts_followed v f)
+facts_behind r (call k n args p) f = answer_known r p (stored_facts p (facts_called (all_followed args f)))
+facts_behind r (new w p) f = stored_facts p (renewed f)
+facts_behind r (choice t a b) f = all_changed b (all_changed a (facts_followed t f))
+facts_behind r (loop t b) f = facts_followed t (all_changed b f)
 
-abbrev pub behind_all : (in_registers : Bool) → TStmts → Facts → Facts
-behind_all r done f = f
-behind_all r (next s rest) f = behind_all r rest (behind r s f)
+abbrev pub facts_behind_all : (in_registers : Bool) → TStmts → Facts → Facts
+facts_behind_all r done f = f
+facts_behind_all r (next s rest) f = facts_behind_all r rest (facts_behind r s f)

@@ -20,7 +20,7 @@ use Rattle.c0_expr_code.specs.FrameSetting.{FrameSetting, frame_back, frame_sett
 use Rattle.c0_expr_code.specs.Code.{AddressingMode, Made, register_of_variable, constant_code, access_code, operand_code, operand_register, made, value_code}
 use Rattle.c0_expr_code.specs.Test.{test_code}
 use Rattle.c0_asm_body.specs.Code.{asm_code}
-use Rattle.c0_stmt_code.specs.Behind.{all_changed, answer_known, behind, behind_all, stored_facts}
+use Rattle.c0_stmt_code.specs.Behind.{all_changed, answer_known, facts_behind, facts_behind_all, stored_facts}
 use Rattle.c0_stmt_code.specs.Live.{is_cleared}
 
 -- the jump indices of what calls name: the functions and the primitives by their numbers, and the routine that takes a new object
@@ -99,11 +99,11 @@ abbrev pub while_code : Scope → Facts → CExpr → List Inst → List Inst
 while_code sc fs t body = skip (length body) ∷ (body ++ turn_code sc fs t body)
 
 -- what is known behind a statement of a function, and behind statements
-abbrev pub behind_stmt : Scope → Facts → CStmt → Facts
-behind_stmt sc fs s = behind sc.in_registers (typed_of_stmt sc.env s) fs
+abbrev pub facts_behind_stmt : Scope → Facts → CStmt → Facts
+facts_behind_stmt sc fs s = facts_behind sc.in_registers (typed_of_stmt sc.env s) fs
 
-abbrev pub behind_stmts : Scope → Facts → CStmts → Facts
-behind_stmts sc fs ss = behind_all sc.in_registers (typed_of_stmts sc.env ss) fs
+abbrev pub facts_behind_stmts : Scope → Facts → CStmts → Facts
+facts_behind_stmts sc fs ss = facts_behind_all sc.in_registers (typed_of_stmts sc.env ss) fs
 
 -- what is known once an answer has gone to its place
 abbrev pub answered_facts : Scope → Facts → CExpr → Facts
@@ -131,7 +131,7 @@ abbrev mutual
 
   pub stmts_code : Scope → Facts → Links → CStmts → List Inst
   stmts_code sc fs x done = []
-  stmts_code sc fs x (next s rest) = stmt_code sc fs x s ++ stmts_code sc (behind_stmt sc fs s) x rest
+  stmts_code sc fs x (next s rest) = stmt_code sc fs x s ++ stmts_code sc (facts_behind_stmt sc fs s) x rest
 
 -- the frame's word of a number: register 29 is the frame's end
 abbrev pub frame_slot : FrameSetting → ℕ → AddressingMode
@@ -176,7 +176,8 @@ zeros_code st cleared (suc n) i = zero_code st (cleared i) i ++ zeros_code st cl
 
 -- the frame's words from number i behind its three words to its end become 0, in a loop
 abbrev pub zeros_loop : FrameSetting → ℕ → List Inst
-zeros_loop st i = access_code (λ b k. Addiu ANSWER b k) ANSWER (frame_slot st (3 + i)) ++ (Sw 0 ANSWER 0 ∷ Addiu ANSWER ANSWER 4 ∷ Bne ANSWER FRAME_END 65533 ∷ [])
+zeros_loop st i =
+    access_code (λ b k. Addiu ANSWER b k) ANSWER (frame_slot st (3 + i)) ++ (Sw 0 ANSWER 0 ∷ Addiu ANSWER ANSWER 4 ∷ Bne ANSWER FRAME_END 65533 ∷ [])
 
 -- the locals' words, of which there are n, from number i behind the frame's three words to its end: few one by one, those that are to be cleared
 abbrev pub locals_code : FrameSetting → (cleared : ℕ → Bool) → (n i : ℕ) → List Inst
@@ -228,8 +229,9 @@ first_facts sc params = start_facts sc.in_registers params
 -- a function that has statements
 abbrev pub statements_function : Scope → Links → (params : ℕ) → List CDecl → CStmts → CExpr → List Inst
 statements_function sc x params locals stmts answer =
-    entry_code (frame_setting sc (first_facts sc params)) (is_cleared locals stmts answer) params (length locals) (all_words sc.env.structs (map typed_of locals)) (are_calling stmts) ++
-    (stmts_code sc (first_facts sc params) x stmts ++ return_code sc (behind_stmts sc (first_facts sc params) stmts) (are_calling stmts) answer)
+    entry_code (frame_setting sc (first_facts sc params)) (is_cleared locals stmts answer) params (length locals)
+    (all_words sc.env.structs (map typed_of locals)) (are_calling stmts) ++
+    (stmts_code sc (first_facts sc params) x stmts ++ return_code sc (facts_behind_stmts sc (first_facts sc params) stmts) (are_calling stmts) answer)
 
 -- a function that has an asm body: it needs no frame, and the stack is tested all the same
 abbrev pub asm_function : FrameSetting → (params : ℕ) → List ℕ → List Inst

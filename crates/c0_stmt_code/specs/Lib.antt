@@ -1,6 +1,7 @@
 pub mod Behind
 pub mod Code
 pub mod Emit
+pub mod Laws
 pub mod Lengths
 pub mod Live
 pub mod Ranges

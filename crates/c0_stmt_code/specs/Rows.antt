@@ -1,17 +1,14 @@
--- The code of two small functions, instruction by instruction; what is live, and what is known, in small statements.
-use Rattle.std.specs.Prelude.{◌≡◌, ℕ, Bool, true, false, List, [], ◌∷◌, None}
+-- The code of three small functions, instruction by instruction; and what is live in small statements.
+use Rattle.std.specs.Prelude.{◌≡◌, ℕ, Bool, true, false, List, [], ◌∷◌}
 use Rattle.mips_table.specs.declared.inst.Inst.{Inst}
-use Rattle.mips_table.specs.declared.inst.Inst.TheVariants.{Addu, Addiu, Beq, Blez, Bne, J, Jal, Jr, Lw, Ori, Sltu, Sw}
+use Rattle.mips_table.specs.declared.inst.Inst.TheVariants.{Addu, Addiu, Beq, Blez, Bne, J, Jal, Jr, Lw, Ori, Slt, Sltu, Sw}
 use Rattle.c0_tree.specs.declared.tree.Kind.TheVariants.{Local, Function}
 use Rattle.c0_tree.specs.declared.tree.BinaryOp.TheVariants.{Gt}
-use Rattle.c0_tree.specs.Tree.{CTy, int, array, num, var, binary, assign, call, choice, loop, done, next, CDecl}
+use Rattle.c0_tree.specs.Tree.{CTy, int, pointer, array, num, var, deref, binary, assign, call, choice, loop, done, next, CDecl}
 use Rattle.c0_meaning.specs.Bare.{z}
 use Rattle.c0_meaning.specs.Env.{Typed, typed_of}
-use Rattle.c0_typed.specs.Tree as typed
-use Rattle.c0_expr_code.specs.Facts.{found_sure, is_not_null, nothing_known, register_holding, start_facts}
 use Rattle.c0_expr_code.specs.Scope.{Scope}
 pub use Rattle.c0_expr_code.specs.Rows.{numbered_name}
-use Rattle.c0_stmt_code.specs.Behind.{behind}
 use Rattle.c0_stmt_code.specs.Live.{are_live}
 use Rattle.c0_stmt_code.specs.Code.{Links, statements_function}
 
@@ -47,6 +44,19 @@ calling_code =
     (next (call z (var (numbered_name Local 0)) z (numbered_name Function 0) (var (numbered_name Local 0) ∷ [])) done)
     (var (numbered_name Local 0))
 
+-- `int h(int* p, int n) { int r; r = *p; if (n > 0) { r = *p; } while (n > r) { n = *p; } return *p; }`: p is tested for null once, where it is
+-- followed first
+abbrev pub following_code : List Inst
+following_code =
+    statements_function (scope_with (typed_of (local_of (pointer int) 0) ∷ typed_of (local_of int 1) ∷ typed_of (local_of int 2) ∷ []) true 6) row_links 2
+    (local_of int 2 ∷ [])
+    (next (assign z (var (numbered_name Local 2)) (deref z (var (numbered_name Local 0))))
+    (next (choice z (binary z Gt (var (numbered_name Local 1)) (num z 0))
+    (next (assign z (var (numbered_name Local 2)) (deref z (var (numbered_name Local 0)))) done) done)
+    (next (loop z (binary z Gt (var (numbered_name Local 1)) (var (numbered_name Local 2)))
+    (next (assign z (var (numbered_name Local 1)) (deref z (var (numbered_name Local 0)))) done)) done)))
+    (deref z (var (numbered_name Local 0)))
+
 -- the code of these functions
 pub record AreCodes : Type 0 where
   pub in_registers : sign_code
@@ -58,14 +68,16 @@ pub record AreCodes : Type 0 where
       ∷ Addiu 2 29 65496 ∷ Sw 0 2 0 ∷ Addiu 2 2 4 ∷ Bne 2 29 65533
       ∷ Jal 7 ∷ Sw 2 29 65492
       ∷ Lw 31 29 65480 ∷ Addiu 29 29 65480 ∷ Jr 31 ∷ []
+  pub followed_once : following_code
+      ≡ Addiu 1 29 24 ∷ Sltu 1 30 1 ∷ Beq 1 0 1 ∷ J 9
+      ∷ Bne 20 0 1 ∷ J 9 ∷ Lw 22 20 0
+      ∷ Blez 21 1 ∷ Lw 22 20 0
+      ∷ Beq 0 0 1 ∷ Lw 21 20 0 ∷ Slt 1 22 21 ∷ Bne 1 0 65533
+      ∷ Lw 2 20 0 ∷ Jr 31 ∷ []
 
--- what is live: what the test of a loop reads, and what a branch of an `if` does, but not what is assigned first
+-- what isn't live: a variable that is assigned first, in a statement or in both branches of an `if`
 pub record AreLiveRows : Type 0 where
-  pub by_test : are_live (next (loop z (var (numbered_name Local 1)) done) done) 1 false ≡ true
-  pub by_branch : are_live (next (choice z (num z 0) done (next (assign z (var (numbered_name Local 0)) (var (numbered_name Local 1))) done)) done) 1 false ≡ true
   pub assigned : are_live (next (assign z (var (numbered_name Local 1)) (num z 0)) done) 1 true ≡ false
-
--- what is known: behind a call no parameter stands in its register, and a variable that was assigned may be null
-pub record AreBehindRows : Type 0 where
-  pub called : register_holding (behind false (typed.call Function 0 [] (typed.global 0)) (start_facts false 1)) 0 ≡ None
-  pub assigned : is_not_null (behind false (typed.assign (typed.local 1 1) (typed.constant 0)) (found_sure nothing_known 1)) 1 ≡ false
+  pub in_branches : are_live
+      (next (choice z (num z 0) (next (assign z (var (numbered_name Local 1)) (num z 0)) done)
+      (next (assign z (var (numbered_name Local 1)) (num z 1)) done)) done) 1 true ≡ false

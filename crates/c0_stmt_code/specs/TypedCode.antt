@@ -9,7 +9,7 @@ use Rattle.c0_expr_code.specs.Code.{constant_code, register_of_variable}
 use Rattle.c0_expr_code.specs.Node.{node_made, node_test}
 use Rattle.c0_expr_code.specs.Facts.{facts_called, overwritten, renewed}
 use Rattle.c0_expr_code.specs.FrameSetting.{FrameSetting, where_told, with_facts}
-use Rattle.c0_stmt_code.specs.Behind.{all_changed, behind, behind_all}
+use Rattle.c0_stmt_code.specs.Behind.{all_changed, facts_behind, facts_behind_all}
 use Rattle.c0_stmt_code.specs.Code.{Links, assigned_code, callee_index, skip, stored_code}
 
 -- a value, into d, with free registers from r
@@ -62,10 +62,10 @@ typed_while st t body = skip (length body) ∷ (body ++ node_test st t true (typ
 
 -- the setting behind a statement, behind statements, and where the test of a loop with this body begins, each time
 abbrev pub setting_behind : FrameSetting → TStmt → FrameSetting
-setting_behind st s = with_facts st (behind st.in_registers s st.facts)
+setting_behind st s = with_facts st (facts_behind st.in_registers s st.facts)
 
 abbrev pub setting_behind_all : FrameSetting → TStmts → FrameSetting
-setting_behind_all st ss = with_facts st (behind_all st.in_registers ss st.facts)
+setting_behind_all st ss = with_facts st (facts_behind_all st.in_registers ss st.facts)
 
 abbrev pub setting_turning : FrameSetting → TStmts → FrameSetting
 setting_turning st body = with_facts st (all_changed body st.facts)

@@ -11,7 +11,7 @@ ghost use Rattle.c0_stmt_code.specs.Code.{asm_function};
 ghost use Rattle.c0_stmt_code.specs.Emit.{body_in, function_in, typed_function_at};
 ghost use Rattle.c0_stmt_code.specs.TypedFunction.{CanEmit, CanEmitBody, FitRegisters, HasFrame, typed_return};
 
-use crate::behind::behind_all;
+use crate::behind::facts_behind_all;
 use crate::prologue::{emit_entry, emit_exit, emit_stack_test};
 use crate::statement::emit_statements;
 use c0_asm_body::{emit_arguments, emit_asm};
@@ -53,7 +53,7 @@ fn emit_code(
 {
     emit_entry(setting, params, body, calling, code)?;
     emit_statements(alloc, setting, addresses, &body.stmts, code)?;
-    let facts = behind_all(setting.in_registers, &body.stmts, setting.facts);
+    let facts = facts_behind_all(setting.in_registers, &body.stmts, setting.facts);
     emit_return(&setting.with(facts), calling, &body.answer, code)
 }
 

@@ -12,7 +12,7 @@ ghost use Rattle.c0_stmt_code.specs.TypedCode.{typed_otherwise_at, typed_stmt_co
 ghost use Rattle.c0_stmt_code.specs.TypedFunction.{FitRegisters, FitsRegisters};
 
 use crate::acts::{emit_assign, emit_call, emit_new};
-use crate::behind::{all_changed, behind};
+use crate::behind::{all_changed, facts_behind};
 use c0_expr_code::node_laws::node_patches_aim;
 use c0_expr_code::{CodeSetting, emit, emit_test, patch, patch_all};
 use c0_typed::{TypedExpr, TypedStmt};
@@ -66,7 +66,7 @@ pub fn emit_statements(
     let mut here = *setting;
     for stmt in stmts {
         emit_statement(alloc, &here, addresses, stmt, code)?;
-        here = here.with(behind(here.in_registers, stmt, here.facts));
+        here = here.with(facts_behind(here.in_registers, stmt, here.facts));
     }
     Ok(())
 }

@@ -1,14 +1,14 @@
 -- The functions of a unit in the order of their code: those of a range of numbers, one more of them, and two ranges behind one another.
-use Rattle.std.specs.Prelude.{All, map, sum, slice_get, slice_index, Some, None}
+use Rattle.std.specs.Prelude.{sum, slice_get, slice_index, Some}
 use Rattle.std.proofs.Common.{◌≡◌, ℕ, zero, suc, ◌+◌, ◌-◌, ◌*◌, ◌<◌, ◌≤◌, inl, inr, List, [], ◌∷◌, ◌++◌, length, take, drop, refl, sym, ap, ◌∙◌, subst, arith, length-append, append_assoc, append-nil}
 use Rattle.std.proofs.lemmas.Bool.{cases_lt}
-use Rattle.std.proofs.lemmas.List.{length-map, length-take-le, map-append, drop_all}
+use Rattle.std.proofs.lemmas.List.{length-map, length-take-le, map-append}
 use Rattle.mips_table.specs.declared.inst.Inst.{Inst}
 use Rattle.c0_tree.specs.Tree.{CFunction, CUnit}
 use Rattle.c0_meaning.specs.Limits.{all_nodes}
 use Rattle.c0_stmt_code.specs.Code.{Links, function_code}
 use Rattle.c0_stmt_code.specs.Lengths.{FunctionsAreShort, LengthsAreFixed}
-use Rattle.c0_unit.specs.Code.{scope, no_links, functions_code, words_of_functions, lengths_of, functions_in, code_in, words_in, in_order, ordered_code, starts_from, starts_in_order}
+use Rattle.c0_unit.specs.Code.{scope, no_links, functions_code, words_of_functions, lengths_of, functions_in, words_in, ordered_code, starts_from, starts_in_order}
 use Rattle.c0_unit.proofs.UnitAddresses.{IsPart, sum-cons, words_few, functions_length, function_stands, behind, before_more}
 
 -- an element of a list stands in its first part, or in the rest

@@ -13,10 +13,8 @@ use Rattle.mips_table.specs.Encoding.{InRange}
 use Rattle.layer_map.specs.Map.{primitives_at}
 use Rattle.masm.specs.declared.registers.CodeAddresses.{CodeAddresses}
 use Rattle.masm.specs.CodeAddresses.{IsJumpTarget, AreCodeAddresses}
-use Rattle.c0_tree.specs.declared.tree.Unit.{Unit as Source}
 use Rattle.c0_tree.specs.Primitives.{CPrimitive}
 use Rattle.c0_tree.specs.Tree.{CFunction, CUnit}
-use Rattle.c0_tree.specs.View.{function_view, unit_view}
 use Rattle.c0_meaning.specs.Operators.{KernelFault, NullUse, Bounds, DivZero, StackOut}
 use Rattle.c0_meaning.specs.Typed.{UnitsAreFaultless}
 use Rattle.c0_meaning.specs.Unit.{IsWellFormed}

@@ -2,7 +2,7 @@
 
 ghost use Rattle.std.specs.Prelude.{◌≡◌, ◌≤◌, All, IfOk};
 ghost use Rattle.masm.specs.CodeAddresses.{IsJumpTarget, AreCodeAddresses};
-ghost use Rattle.c0_unit.specs.Code.{fault_exits, primitive_entries};
+ghost use Rattle.c0_unit.specs.Code.{primitive_entries};
 ghost use Rattle.c0_unit.specs.Laws.{AreAddressesAt};
 
 use c0_runtime::runtime::{DIVIDE, MULTIPLY, NEW_OBJECT, REMAINDER};

@@ -32,8 +32,8 @@ use Rattle.c0_expr_code.specs.Facts.{facts_called, is_sure_pointer, overwritten,
 use Rattle.c0_expr_code.specs.Code.{field_made, index_made, target_address, at_place, only_value, access_code, unary_made, binary_made, made, constant_code, register_of_variable, right_facts}
 use Rattle.c0_expr_code.specs.Reads.{reads, reads_to_find}
 use Rattle.c0_expr_code.specs.Test.{plain_test, unary_test, binary_test, test_code}
-use Rattle.c0_stmt_code.specs.Code.{Links, callee_index, skip, stored_code, assigned_code, args_code, otherwise, otherwise_at, stmt_code, stmts_code, behind_stmt, behind_stmts, told_facts, turn_facts, first_facts, entry_code, exit_code, body_code, function_code}
-use Rattle.c0_stmt_code.specs.Behind.{all_changed, behind, behind_all}
+use Rattle.c0_stmt_code.specs.Code.{Links, callee_index, skip, stored_code, assigned_code, args_code, otherwise, otherwise_at, stmt_code, stmts_code, facts_behind_stmt, facts_behind_stmts, told_facts, turn_facts, first_facts, entry_code, exit_code, body_code, function_code}
+use Rattle.c0_stmt_code.specs.Behind.{all_changed, facts_behind, facts_behind_all}
 use Rattle.c0_stmt_code.specs.Live.{any_reads, is_variable, live_at_place, is_live, are_live, are_scalar, is_cleared}
 use Rattle.c0_unit.specs.Code.{fault_exits, scope, links, no_links, unit_links, functions_code, words_of_functions, ordered_code, starts_from, function_starts, functions_at, code_words, routines_code, unit_code, program_words}
 use Rattle.c0_types.specs.Front.{IsUnitAs}
@@ -164,8 +164,8 @@ mutual
   stmts_bare : (sc : Scope) (fs : Facts) (x : Links) (ss : CStmts) → stmts_code sc fs x (bare_stmts ss) ≡ stmts_code sc fs x ss
   stmts_bare sc fs x done = refl
   stmts_bare sc fs x (next s rest) =
-      let more : stmts_code sc (behind_stmt sc fs (bare_stmt s)) x (bare_stmts rest) ≡ stmts_code sc (behind_stmt sc fs s) x rest =
-      (λ i. stmts_code sc (behind sc.in_registers (tree_bare sc.env s i) fs) x (bare_stmts rest)) ∙ stmts_bare sc (behind_stmt sc fs s) x rest in
+      let more : stmts_code sc (facts_behind_stmt sc fs (bare_stmt s)) x (bare_stmts rest) ≡ stmts_code sc (facts_behind_stmt sc fs s) x rest =
+      (λ i. stmts_code sc (facts_behind sc.in_registers (tree_bare sc.env s i) fs) x (bare_stmts rest)) ∙ stmts_bare sc (facts_behind_stmt sc fs s) x rest in
       λ j. stmt_bare sc fs x s j ++ more j
 
 mutual
@@ -256,11 +256,11 @@ scope_bare u f = λ j. record {
 body_bare : (sc : Scope) (x : Links) (n : ℕ) (b : CBody) → body_code sc x n (bare_body b) ≡ body_code sc x n b
 body_bare sc x n (code locals stmts answer) =
     let first = first_facts sc n in
-    let answered : made sc (behind_stmts sc first (bare_stmts stmts)) (bare_expr answer) ≡ made sc (behind_stmts sc first stmts) answer =
-    (λ i. made sc (behind_all sc.in_registers (trees_bare sc.env stmts i) first) (bare_expr answer)) ∙ made_bare sc (behind_stmts sc first stmts) answer in
+    let answered : made sc (facts_behind_stmts sc first (bare_stmts stmts)) (bare_expr answer) ≡ made sc (facts_behind_stmts sc first stmts) answer =
+    (λ i. made sc (facts_behind_all sc.in_registers (trees_bare sc.env stmts i) first) (bare_expr answer)) ∙ made_bare sc (facts_behind_stmts sc first stmts) answer in
     λ j. entry_code (frame_setting sc first) (cleared_bare locals stmts answer j) n (count_bare locals j) (all_words sc.env.structs (typeds_bare locals j)) (callings_bare stmts j)
     ++ (stmts_bare sc first x stmts j
-    ++ ((answered j).value ANSWER EXPRESSIONS ++ exit_code (frame_setting sc (behind_all sc.in_registers (trees_bare sc.env stmts j) first)) (callings_bare stmts j)))
+    ++ ((answered j).value ANSWER EXPRESSIONS ++ exit_code (frame_setting sc (facts_behind_all sc.in_registers (trees_bare sc.env stmts j) first)) (callings_bare stmts j)))
 body_bare sc x n (asm text span words) = refl
 
 function_bare : (u : CUnit) (x : Links) (f : CFunction) → function_code (scope (bare u) (bare_function f)) x (bare_function f) ≡ function_code (scope u f) x f

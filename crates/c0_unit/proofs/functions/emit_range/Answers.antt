@@ -1,14 +1,13 @@
 -- The lemmas on one function more, at what the calls gave.
-use Rattle.std.proofs.Common.{◌≡◌, ◌+◌, ◌*◌, ◌<◌, ◌≤◌, List, ◌++◌, length, map, sym, ap, ◌∙◌, arith, append-nil, add-one}
+use Rattle.std.proofs.Common.{◌+◌, ◌*◌, ◌<◌, List, ◌++◌, length, map, sym, ap, ◌∙◌, arith, append-nil, add-one}
 use Rattle.mips_table.specs.Encoding.{encoding}
 use Rattle.layer_map.specs.Map.{layer_words}
 use Rattle.c0_tree.specs.Tree.{CFunction}
 use Rattle.c0_tree.specs.View.{unit_view}
-use Rattle.c0_meaning.specs.Limits.{all_nodes}
 use Rattle.c0_stmt_code.specs.Code.{links_of}
 use Rattle.c0_unit.specs.Code.{functions_code, words_of_functions, starts_from}
 use Rattle.c0_unit.proofs.FunctionsInOrder.{none_in}
-use Rattle.c0_unit.proofs.OneFunctionMore.{few_nodes, grown_code, grown_starts, code_few, starts_placed}
+use Rattle.c0_unit.proofs.OneFunctionMore.{grown_code, grown_starts, code_few, starts_placed}
 use Rattle.c0_unit.proofs.functions.emit_range.Goals as goal
 
 pub loop-number-init : goal.loop-number-init
