@@ -112,9 +112,6 @@ module _ (sc : Scope) where
   negative_literal (Some n) m = refl
   negative_literal None m = refl
 
-  pub none_some : {A : Type 0} (o : Option A) (a : A) → o ≡ None → o ≡ Some a → ⊥
-  none_some o a e q = cc
-
   unary_literal : (o : UnaryOp) (m : Made) → (unary_made o m).literal ≡ None
   unary_literal Negate m = negative_literal m.literal m
   unary_literal Not m = refl

@@ -255,7 +255,3 @@ module _ (sc : Scope) where
   short fs (address p e) = values _ (nodes e + 1) (omega arith) (λ d r. let h = (short fs e).place r in let a = access_length (λ b k. Addiu d b k) r ((made sc fs e).place r) in omega (arith, h, a))
   short fs (unary p o e) = unaries o (made sc fs e) (nodes e) (short fs e)
   short fs (binary p o a b) = binaries o (made sc fs a) (made sc (right_facts o (typed_of_expr sc.env a) fs) b) (nodes a) (nodes b) (short fs a) (short (right_facts o (typed_of_expr sc.env a) fs) b)
-
-  -- an expression's code is at most 14 words for each of its nodes
-  pub value_length : (fs : Facts) (e : CExpr) (d r : ℕ) → length ((made sc fs e).value d r) ≤ 14 * nodes e
-  value_length fs e d r = (short fs e).value d r

@@ -77,7 +77,7 @@ fn tells_difference(op: Plain, outcome: bool) -> bool
 }
 
 impl Facts {
-    /// What is known at a function's begin: its parameters came in registers 20 to 27, where it doesn't keep its variables there.
+    /// What is known at a function's begin: its first eight parameters came in registers 20 to 27, where it doesn't keep its variables there.
     pub fn at_start(in_registers: bool, params: u32) -> Facts
         ensures { result ≡ spec.start_facts in_registers params }
     {
@@ -157,7 +157,7 @@ impl Facts {
         facts
     }
 
-    /// Once the argument of this number went to its register, from 20 on: nothing is known of the registers behind 27.
+    /// Once the argument of this number went to its register, 20 plus the number; nothing is known of registers behind 27.
     pub fn overwritten(self, number: u32) -> Facts
         ensures { result ≡ spec.overwritten self number }
     {

@@ -22,16 +22,19 @@ use Rattle.c0_expr_code.specs.Code.{right_facts, negated, negative_made, made}
 use Rattle.c0_expr_runs.specs.Bases.{Bases, word_of_scalar}
 use Rattle.c0_expr_runs.specs.Relation.{layout}
 use Rattle.c0_expr_runs.proofs.WordsOfValues.{word_pos, word_negative}
-use Rattle.c0_expr_code.proofs.NodeTypes.{none_some, variable_not_constant, negative_literal, binary_not_constant}
+use Rattle.c0_expr_code.proofs.NodeTypes.{variable_not_constant, negative_literal, binary_not_constant}
+
+none_some : {A : Type 0} (o : Option A) (a : A) → o ≡ None → o ≡ Some a → ⊥
+none_some o a e q = cc
 
 module _ (sc : Scope) where
   -- the number that is written is what the expression comes to
   pub literal_is : (fs : Facts) (e : CExpr) (c : ℕ) (s : C0State) → (made sc fs e).literal ≡ Some c → value_of e s ≡ costs 1 (Ok (int (pos c)))
   literal_is fs (num p n) c s e = let q : n ≡ c = cc in ap (λ m. costs 1 (Ok (int (pos m)))) q
-  literal_is fs (var x) c s e = absurd (none_some sc _ c (variable_not_constant sc fs x.kind x.number).literal e)
-  literal_is fs (unary p Negate a) c s e = absurd (none_some sc _ c (negative_literal sc (made sc fs a).literal (made sc fs a)) e)
+  literal_is fs (var x) c s e = absurd (none_some _ c (variable_not_constant sc fs x.kind x.number).literal e)
+  literal_is fs (unary p Negate a) c s e = absurd (none_some _ c (negative_literal sc (made sc fs a).literal (made sc fs a)) e)
   literal_is fs (unary p Not a) c s e = absurd (cc)
-  literal_is fs (binary p o a b) c s e = absurd (none_some sc _ c (binary_not_constant sc o (made sc fs a) (made sc (right_facts o (typed_of_expr sc.env a) fs) b)).literal e)
+  literal_is fs (binary p o a b) c s e = absurd (none_some _ c (binary_not_constant sc o (made sc fs a) (made sc (right_facts o (typed_of_expr sc.env a) fs) b)).literal e)
   literal_is fs (true_ p) c s e = absurd (cc)
   literal_is fs (false_ p) c s e = absurd (cc)
   literal_is fs (null p) c s e = absurd (cc)
@@ -43,9 +46,9 @@ module _ (sc : Scope) where
 
   pub small_literal : (fs : Facts) (e : CExpr) (c : ℕ) → HasNumberedType sc.env e ty.int → (made sc fs e).literal ≡ Some c → FitsSigned w32 (pos c)
   small_literal fs _ c (a_number {n = n} h) e = let q : n ≡ c = cc in subst (λ m. FitsSigned w32 (pos m)) q (record { sfits = omega (arith, h) })
-  small_literal fs (var x) c h e = absurd (none_some sc _ c (variable_not_constant sc fs x.kind x.number).literal e)
-  small_literal fs (unary p Negate a) c h e = absurd (none_some sc _ c (negative_literal sc (made sc fs a).literal (made sc fs a)) e)
-  small_literal fs (binary p o a b) c h e = absurd (none_some sc _ c (binary_not_constant sc o (made sc fs a) (made sc (right_facts o (typed_of_expr sc.env a) fs) b)).literal e)
+  small_literal fs (var x) c h e = absurd (none_some _ c (variable_not_constant sc fs x.kind x.number).literal e)
+  small_literal fs (unary p Negate a) c h e = absurd (none_some _ c (negative_literal sc (made sc fs a).literal (made sc fs a)) e)
+  small_literal fs (binary p o a b) c h e = absurd (none_some _ c (binary_not_constant sc o (made sc fs a) (made sc (right_facts o (typed_of_expr sc.env a) fs) b)).literal e)
   small_literal fs (field p a f) c h e = absurd (cc)
   small_literal fs (arrow p a f) c h e = absurd (cc)
   small_literal fs (index p a i) c h e = absurd (cc)
@@ -86,7 +89,7 @@ module _ (sc : Scope) where
         record { units = 1; value = int (pos n); is = refl; some = omega arith; fits = fits; word_is = word_pos n fits ∙ q }
     known_is fs _ _ s k a_true e = let q : 1 ≡ k = cc in record { units = 1; value = bool true; is = refl; some = omega arith; fits = tt; word_is = q }
     known_is fs _ _ s k a_false e = let q : 0 ≡ k = cc in record { units = 1; value = bool false; is = refl; some = omega arith; fits = tt; word_is = q }
-    known_is fs (var x) t s k h e = absurd (none_some sc _ k (variable_not_constant sc fs x.kind x.number).known e)
+    known_is fs (var x) t s k h e = absurd (none_some _ k (variable_not_constant sc fs x.kind x.number).known e)
     known_is fs (field p a f) t s k h e = absurd (cc)
     known_is fs (arrow p a f) t s k h e = absurd (cc)
     known_is fs (index p a i) t s k h e = absurd (cc)
@@ -94,7 +97,7 @@ module _ (sc : Scope) where
     known_is fs (address p a) t s k h e = absurd (cc)
     known_is fs _ _ s k (a_negative {e = a} h) e = negative_known fs a s k (made sc fs a).literal h refl e
     known_is fs _ _ s k (a_negation {e = a} h) e = absurd (cc)
-    known_is fs (binary p o a b) t s k h e = absurd (none_some sc _ k (binary_not_constant sc o (made sc fs a) (made sc (right_facts o (typed_of_expr sc.env a) fs) b)).known e)
+    known_is fs (binary p o a b) t s k h e = absurd (none_some _ k (binary_not_constant sc o (made sc fs a) (made sc (right_facts o (typed_of_expr sc.env a) fs) b)).known e)
 
     pub null_known : (t : Ty) (k : ℕ) → ◌≡◌ {A = Option ℕ} (Some 0) (Some k) → KnownAs (ty.pointer t) k (costs 1 (Ok value.null))
     null_known t k e = let q : 0 ≡ k = cc in record { units = 1; value = value.null; is = refl; some = omega arith; fits = tt; word_is = q }

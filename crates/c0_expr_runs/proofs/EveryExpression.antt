@@ -51,7 +51,7 @@ use Rattle.c0_expr_runs.proofs.ToldIsSo.{told_ready}
 use Rattle.c0_expr_runs.proofs.FramePlaces.{base_of, base_read, same_place, field_based, element_of_based, based, or_left, or_right, both_true}
 use Rattle.c0_expr_code.specs.Reads.{reads, reads_to_find, Covers}
 use Rattle.c0_expr_runs.proofs.ElementsTested.{indexes}
-use Rattle.c0_expr_code.proofs.ShortExpressions.{value_length}
+use Rattle.c0_expr_code.proofs.ShortExpressions.{short}
 use Rattle.c0_expr_code.proofs.NodeTypes.{type_is}
 use Rattle.c0_expr_runs.proofs.ConstantsKnown.{literal_is, small_literal, KnownAs, negative_known, known_is, null_known}
 use Rattle.c0_expr_runs.proofs.OperatorsOnRegisters.{Finishes, Answers, any_answer, twos, ones, sums, orders, equals, quotients, remainders, negatives, negations, Skip, skips_and, skips_or, logics}
@@ -473,7 +473,7 @@ module _ (w : World) (sc : Scope) (p : Bases) (live : ℕ → Bool) (fs : Facts)
       logics w sc p live s f area is_typed fs behind (λ z. Bne r 0 z) true a b na nb d r n c k x y (λ b. if b then at_no_cost (Ok (bool true)) else y) idle lo (omega arith) (omega arith) hb nz no1 ready code (λ m there. let few : length (b.value r r) % 2 ^ 16 ≡ length (b.value r r) = let z = short r in omega (arith, z) in subst (λ v. Skip w sc p live s f area is_typed (Bne r 0 v) true r (length (b.value r r)) m k) (sym few) (skips_or w sc p live s f area is_typed r (length (b.value r r)) m k idle (short r) (subst (λ v. w.code m ≡ Some (Bne r 0 v)) few there))) refl refl va vb told)
 
   pub short_code : (e : CExpr) (r : ℕ) → nodes e ≤ 2000 → length ((made sc fs e).value r r) < 32768
-  short_code e r few = let a = value_length sc fs e r r in omega (arith, a, few)
+  short_code e r few = let a = (short sc fs e).value r r in omega (arith, a, few)
 
   -- a value with its sign changed
   pub negatives_right : (o : Option ℕ) (m : Made) (need : ℕ) (x : Costed Value) (l : Costed Location) → 1 ≤ need → OperandRuns w sc p live fs s m need ty.int x
