@@ -1,5 +1,5 @@
 -- A dispatch for a call of a program, as an event of that program: for theorems of whole systems, whose kernels answer by `vm_set`.
-use Rattle.std.specs.Prelude.{◌≡◌, ℕ, ℤ, ◌≤◌, List, [], ◌∷◌, ◌++◌, length, None, Some, FitsSigned}
+use Rattle.std.specs.Prelude.{◌≡◌, ℤ, ◌≤◌, List, [], ◌∷◌, ◌++◌, length, None, Some, FitsSigned}
 use Rattle.std.specs.Int.{w32, cast_unsigned}
 use Rattle.mips_table.specs.declared.cause.Cause.TheVariants.{Syscall}
 use Rattle.c0_tree.specs.Tree.{CUnit}

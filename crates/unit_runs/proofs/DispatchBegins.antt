@@ -4,7 +4,7 @@ use Rattle.std.specs.Int.{w32, cast_unsigned}
 use Rattle.std.proofs.lemmas.Int.{of_z-to_z}
 use Rattle.std.proofs.lemmas.Bool.{and_parts, ltb-false}
 use Rattle.std.proofs.lemmas.List.{get_or-take}
-use Rattle.std.proofs.Common.{◌≡◌, ℕ, ◌+◌, ◌*◌, ◌/◌, ◌^◌, ◌<◌, ◌≤◌, Bool, true, false, List, [], ◌∷◌, length, map, refl, sym, ap, ◌∙◌, subst, arith, ltb-true}
+use Rattle.std.proofs.Common.{◌≡◌, ℕ, ◌+◌, ◌/◌, ◌^◌, ◌<◌, ◌≤◌, Bool, true, false, List, [], ◌∷◌, length, map, refl, sym, ap, ◌∙◌, subst, arith, ltb-true}
 use Rattle.mips_table.specs.declared.inst.Inst.{Inst}
 use Rattle.mips_table.specs.declared.inst.Inst.TheVariants.{Lui}
 use Rattle.mips_table.specs.Arith.{signed}
@@ -32,10 +32,9 @@ use Rattle.c0_runtime.specs.Code.{startup_code, behind_first}
 use Rattle.c0_runtime.specs.Laws.{IsEntered, StackIs, EntryRuns, with_half}
 use Rattle.c0_expr_runs.specs.Laws.{IsOpened}
 use Rattle.c0_expr_runs.specs.Bases.{Bases}
-use Rattle.c0_stmt_code.specs.Code.{links_of}
 use Rattle.c0_runs.specs.Setup.{Setup}
 use Rattle.c0_runs.specs.Standing as code_run
-use Rattle.c0_runs.specs.Standing.{bases, Simulated, StepsRun}
+use Rattle.c0_runs.specs.Standing.{bases, Simulated}
 use Rattle.layer_contract.specs.Layer.{Linked, DispatchCalled}
 use Rattle.cvm_model.specs.Kernel.{Core, Changes, flat}
 use Rattle.cvm_model.specs.KernelMeaning.{Machines, machines_of}

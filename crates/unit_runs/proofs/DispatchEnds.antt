@@ -28,7 +28,7 @@ use Rattle.c0_expr_runs.specs.Laws.{IsOpened}
 use Rattle.c0_expr_runs.specs.Bases.{Bases, word_of_scalar}
 use Rattle.c0_runs.specs.Setup.{Setup}
 use Rattle.c0_runs.specs.Standing as code_run
-use Rattle.c0_runs.specs.Standing.{bases, unit_scope, Ended, AtExit, StepsRun}
+use Rattle.c0_runs.specs.Standing.{bases, unit_scope}
 use Rattle.layer_contract.specs.declared.entry.Entry.{Entry}
 use Rattle.layer_contract.specs.declared.entry.Entry.TheVariants.{Fault as Exit, Leave}
 use Rattle.layer_contract.specs.declared.registers.TheConstants.{ANSWER}

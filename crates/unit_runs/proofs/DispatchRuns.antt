@@ -25,7 +25,6 @@ use Rattle.c0_runtime.specs.Laws.{EntryRuns}
 use Rattle.c0_expr_code.specs.Scope.{scope_of}
 use Rattle.c0_expr_runs.specs.Laws.{IsOpened, AreasHold}
 use Rattle.c0_expr_runs.specs.Bases.{words_of_all}
-use Rattle.c0_stmt_code.specs.Code.{links_of}
 use Rattle.layer_contract.specs.Layer.{Inside, Linked, PrimitivesAnswer, Leaves, Exits}
 use Rattle.layer_contract.specs.Calls.{entered_before, EndsCall, KernelCalled}
 use Rattle.layer_contract.specs.Follows.{EndsAs}

@@ -1,9 +1,9 @@
 -- A user program's code on a flat machine: what is fixed for its run, and how it comes from its first word to `main`.
 use Rattle.std.specs.Prelude.{slice_get, map, unwrap_or, ℤ, ◌==◌}
-use Rattle.std.proofs.Common.{◌≡◌, ℕ, zero, suc, ◌+◌, ◌*◌, ◌≤◌, List, [], ◌∷◌, ◌++◌, length, Some, None, refl, sym, ap, ◌∙◌, subst, arith, append_assoc, length-append, eqb-true}
+use Rattle.std.proofs.Common.{◌≡◌, ℕ, zero, suc, ◌+◌, ◌≤◌, List, [], ◌∷◌, ◌++◌, length, Some, None, refl, sym, ap, ◌∙◌, subst, arith, append_assoc, length-append, eqb-true}
 use Rattle.std.proofs.lemmas.Bool.{and_parts}
 use Rattle.mips_table.specs.declared.inst.Inst.{Inst}
-use Rattle.mips_table.specs.Code.{Contents, World, CodeState, at_with, Program, on_flat, Sound, Steps, CodeAt, RunLaws}
+use Rattle.mips_table.specs.Code.{Contents, World, at_with, Program, on_flat, CodeAt, RunLaws}
 use Rattle.mips_table.specs.Simulation.{nothing_behind}
 use Rattle.masm.specs.declared.registers.CodeAddresses.{CodeAddresses}
 use Rattle.layer_map.specs.Map.{layer_words, leave_at}
@@ -12,7 +12,7 @@ use Rattle.c0_tree.specs.Primitives.{CPrimitive, user_primitives}
 use Rattle.c0_tree.specs.Tree.{CDecl, CFunction, CUnit}
 use Rattle.c0_meaning.specs.Ty.{Ty}
 use Rattle.c0_meaning.specs.Env.{Shape, typed_of}
-use Rattle.c0_meaning.specs.Limits.{is_main, first_number}
+use Rattle.c0_meaning.specs.Limits.{first_number}
 use Rattle.c0_meaning.specs.Sound.{shapes}
 use Rattle.c0_meaning.specs.RunLaws.{FirstIsTyped, HasFirst}
 use Rattle.c0_meaning.specs.State.{first_state}
@@ -28,7 +28,7 @@ use Rattle.c0_stmt_code.specs.Code.{links_of, function_code}
 use Rattle.c0_runs.specs.Setup.{Setup}
 use Rattle.c0_runs.specs.Standing.{unit_scope, bases, ConfigurationStands, StepsRun}
 use Rattle.c0_runs.specs.Zeros.{ZerosAreHeld}
-use Rattle.c0_unit.specs.Code.{code_words, globals_start, unit_code}
+use Rattle.c0_unit.specs.Code.{unit_code}
 use Rattle.user_c0.specs.Flat.{Rooms, unit_data, HoldsProgram, IsUnitLoaded, Outer, setting, main_start, FlatRun}
 use Rattle.c0_unit.specs.Laws.{AreAddressesOf, StandsIn, UnitStands}
 

@@ -1,5 +1,5 @@
 -- A user program's code on a flat machine: what holds it, how it is loaded, and that it runs as the program means.
-use Rattle.std.specs.Prelude.{◌≡◌, ℕ, ℤ, ◌+◌, ◌*◌, ◌/◌, ◌≤◌, List, [], ◌∷◌, Some, None, slice_get}
+use Rattle.std.specs.Prelude.{◌≡◌, ℕ, ℤ, ◌+◌, ◌*◌, ◌≤◌, List, [], ◌∷◌, Some, None, slice_get}
 use Rattle.mips_table.specs.declared.inst.Inst.TheVariants.{Jal}
 use Rattle.mips_table.specs.Code.{Contents, Behind, CodeState, at_with, Program, on_flat, Sound, Steps}
 use Rattle.mips_table.specs.Simulation.{nothing_behind}

@@ -1,5 +1,5 @@
 -- Both ranges are all functions.
-use Rattle.std.proofs.Common.{◌≡◌, ℕ, List, ◌++◌, ◌+◌, ◌≤◌, length, ap, ◌∙◌, subst, arith}
+use Rattle.std.proofs.Common.{◌≡◌, ℕ, List, ◌++◌, ◌≤◌, length, ap, ◌∙◌, subst, arith}
 use Rattle.std.proofs.lemmas.List.{length-map}
 use Rattle.layer_map.specs.Map.{layer_words}
 use Rattle.c0_tree.specs.declared.tree.Unit.{Unit as Source}
