@@ -160,13 +160,14 @@ class Recorder(Seen):
 
 class ReplayedRun(Run):
     """A run that notes of each user in C0 what its calls of `trap` were answered: register 2 where it goes on behind one. Those of which the kernel changed
-    more than that are `changed`: their sources don't say any more what they do."""
+    more than that are `changed`: their sources don't say any more what they do. Those that are `over` have ended, or met a fault: behind that nothing
+    reads their register 2."""
 
     def __init__(self, given):
         Run.__init__(self, given.system, dict(given.printed.lines))
         self.programs = {n for n, user in enumerate(given.users, 1) if user.kind == 'c0'}
         self.answers = {n: [] for n in self.programs}
-        self.waiting, self.changed, self.argument = set(), set(), 0
+        self.waiting, self.over, self.changed, self.argument = set(), set(), set(), 0
 
     def step(self):
         user = self.current
@@ -175,15 +176,17 @@ class ReplayedRun(Run):
             self.waiting.discard(user)
         trap = self.users[user - 1].step()
         self.argument = self.users[user - 1].r[4]
-        if trap == CALL and user in self.programs:
+        if user in self.programs and trap == CALL:
             self.waiting.add(user)
+        elif user in self.programs and trap is not None and trap[0] == CALL[0]:
+            self.over.add(user)
         return trap
 
     def dispatch(self, call):
         Run.dispatch(self, call)
         for user in self.programs:
             notes = self.kernel.notes.get(user, [])
-            if any(not note.startswith('set 2 ') for note in notes) or (notes and user not in self.waiting):
+            if any(not note.startswith('set 2 ') for note in notes) or (notes and user not in self.waiting | self.over):
                 self.changed.add(user)
 
 
