@@ -4,7 +4,7 @@ use Rattle.c0_typed.specs.Tree.{TExpr, local, constant}
 use Rattle.c0_expr_code.specs.declared.facts.Facts.{Facts}
 use Rattle.c0_expr_code.specs.Facts.{register_holding, register_of_variable}
 
--- the word that is written
+-- the word that a constant is
 abbrev pub written_word : TExpr → Option ℕ
 written_word (constant k) = Some k
 written_word _ = None

@@ -117,7 +117,7 @@ fn emit_far(
 }
 
 /// Appends the code that loads the word of a place into a register, stores the register there, or puts the place's address into the
-/// register; where the place is too far for an immediate, `free` holds its address.
+/// register; where the place is too far for an immediate, `free` holds its address. The registers and the address's base are below 32.
 ///
 /// Want of memory leaves `code` as it was.
 pub fn emit_access(

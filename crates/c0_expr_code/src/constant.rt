@@ -9,7 +9,7 @@ use crate::word::{emit, is_near, low};
 use mips_table::{Inst, encode};
 use std::alloc::AllocError;
 
-/// Appends the code that brings a word into a register.
+/// Appends the code that brings a word into the register `target`, which is below 32.
 ///
 /// Want of memory leaves `code` as it was.
 pub fn emit_constant(code: &mut Vec<u32>, target: u32, word: u32) -> Result<(), AllocError>

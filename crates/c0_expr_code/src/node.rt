@@ -201,7 +201,7 @@ fn emit_indexed(
     })
 }
 
-/// Appends the code of a value, into register `target`, with free registers from `free` to 19.
+/// Appends the code of a value, into register `target`, below 32, with free registers from `free` to 19.
 #[cycle(node)]
 pub fn emit_value(
     setting: &CodeSetting,

@@ -4,7 +4,7 @@ ghost use Rattle.std.specs.Prelude.{◌≡◌, ◌≤◌, ◌<◌, All, length, 
 ghost use Rattle.c0_expr_code.specs.Jumps.{patched};
 ghost use Rattle.c0_expr_code.specs.Patch.{aimed, distance};
 
-/// Lets the branch at a word lead to another word, which may stand before it.
+/// Lets the branch at a word of the code lead to another word, which may stand before it, or to the one behind the last.
 pub fn patch(code: &mut Vec<u32>, at: usize, to: usize)
     requires at { at < length code.old.items }
     requires to { to ≤ length code.old.items }
@@ -15,7 +15,7 @@ pub fn patch(code: &mut Vec<u32>, at: usize, to: usize)
     code[at] = word / 0x1_0000 * 0x1_0000 + (far as u32);
 }
 
-/// Lets the branches at these words lead to another word, which may stand before them.
+/// Lets the branches at these words of the code lead to another word, which may stand before them, or to the one behind the last.
 pub fn patch_all(code: &mut Vec<u32>, jumps: &[usize], to: usize)
     requires jumps { All (λ j. j < length code.old.items) jumps.now }
     requires to { to ≤ length code.old.items }

@@ -372,8 +372,8 @@ fn emit_operation(
     }
 }
 
-/// Appends the code of a test: it goes to a place where the expression is `wanted`, and else falls through. Its branches to the place
-/// lead nowhere yet, and where they stand is appended to `jumps`: `patch_all` lets them lead to the place.
+/// Appends the code of a test, with free registers from `free` to 19: it branches where the expression is `wanted`, and else falls through.
+/// Its branches lead nowhere yet, and where they stand is appended to `jumps`: `patch_all` gives them their target.
 ///
 /// Want of memory may leave a part of the code, and of the list.
 #[cycle(testing)]

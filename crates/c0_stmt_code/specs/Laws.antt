@@ -1,4 +1,4 @@
--- What is live before statements, and what isn't known behind them any more, over all statements.
+-- What is live before statements; and what isn't known any more behind assignments, calls and `new`.
 use Rattle.std.specs.Prelude.{◌≡◌, ℕ, Bool, true, false, List, None, IsTrue}
 use Rattle.c0_tree.specs.declared.tree.Kind.{Kind}
 use Rattle.c0_tree.specs.declared.tree.Span.{Span}
@@ -32,11 +32,12 @@ pub record ReadIsLive : Type 0 where
   pub body : (s : Span) (t : CExpr) (b : CStmts) (n : ℕ) (behind : Bool) → IsTrue (are_live b n false) → IsTrue (is_live (loop s t b) n behind)
   pub kept_by_loop : (s : Span) (t : CExpr) (b : CStmts) (n : ℕ) → IsTrue (is_live (loop s t b) n true)
 
--- A law: behind a call no parameter is known to stand in its register; and a variable that was assigned may be null, and stands in no register, unless
--- it was a call's answer.
+-- A law: behind a call no parameter is known to stand in its register, and no variable in that of the answer, unless it was answered; and a variable
+-- that was assigned may be null, and stands in no register, unless it was a call's answer.
 pub record FactsEnd : Type 0 where
   pub called : (r : Bool) (k : Kind) (i : ℕ) (args : List TExpr) (p : TExpr) (f : Facts) (n : ℕ)
       → holds_param (facts_behind r (typed.call k i args p) f) n ≡ false
+  pub elsewhere : (r : Bool) (k : Kind) (i w : ℕ) (args : List TExpr) (f : Facts) → (facts_behind r (typed.call k i args (typed.global w)) f).answer ≡ None
   pub assigned : (r : Bool) (n w : ℕ) (v : TExpr) (f : Facts) → is_not_null (facts_behind r (typed.assign (local n w) v) f) n ≡ false
   pub answered : (r : Bool) (k : Kind) (i : ℕ) (args : List TExpr) (n w : ℕ) (f : Facts)
       → is_not_null (facts_behind r (typed.call k i args (local n w)) f) n ≡ false

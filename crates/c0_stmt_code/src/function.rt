@@ -121,7 +121,7 @@ fn emit_whole(
     )
 }
 
-/// Appends the code of a function, where the addresses of what it names are these.
+/// Appends the code of a function that fits the registers (`CanEmit`), where the addresses of what it names are these.
 ///
 /// Want of memory leaves `code` as it was.
 pub fn emit_function(

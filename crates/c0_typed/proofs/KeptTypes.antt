@@ -12,10 +12,10 @@ use Rattle.c0_meaning.specs.TypeAt.{IsFoundResolved}
 use Rattle.c0_meaning.specs.declared.form.Found.{Found}
 use Rattle.c0_typed.specs.declared.elaborated.Elaborated.{Elaborated}
 use Rattle.c0_typed.specs.declared.seen_function.SeenFunction.{SeenFunction}
-use Rattle.c0_typed.specs.Elaborated.{IsAddressOf, IsElaborated, IsKept, IsTargetOf}
+use Rattle.c0_typed.specs.Elaborated.{IsAddressOf, IsElaborated, StaysResolved, IsTargetOf}
 use Rattle.c0_typed.specs.Tree.{address, target}
 
-pub resolved : (structs : List Shape) (from to : Found) → IsKept from to → IsFoundResolved structs from → IsFoundResolved structs to
+pub resolved : (structs : List Shape) (from to : Found) → StaysResolved from to → IsFoundResolved structs from → IsFoundResolved structs to
 resolved structs from to k r = k.kept structs r
 
 -- what a pointer that is elaborated points to

@@ -16,16 +16,16 @@ use Rattle.c0_typed.specs.View.{typed_expr_view}
 use Rattle.c0_typed.specs.declared.seen_function.SeenFunction.{SeenFunction}
 
 -- it has this tree and this type
-pub record Means (t : TExpr) (a : Option Ty) (x : Elaborated) : Type 0 where
+pub record HasTreeAndType (t : TExpr) (a : Option Ty) (x : Elaborated) : Type 0 where
   pub tree : typed_expr_view x.tree ≡ t
   pub ty : found_view x.ty ≡ a
 
 -- the names in a type are resolved where those in another are
-pub record IsKept (from to : Found) : Type 0 where
+pub record StaysResolved (from to : Found) : Type 0 where
   pub kept : (structs : List Shape) → IsFoundResolved structs from → IsFoundResolved structs to
 
 -- it is the field of a number in its owner
-pub record IsFieldOf (f : SeenFunction) (owner : Elaborated) (n : ℕ) (x : Elaborated) : Type 0 where
+pub record IsElaboratedField (f : SeenFunction) (owner : Elaborated) (n : ℕ) (x : Elaborated) : Type 0 where
   pub tree : typed_expr_view x.tree ≡ part (typed_expr_view owner.tree) (field_bytes (env_seen f).structs (found_view owner.ty) n)
   pub ty : found_view x.ty ≡ field_type (env_seen f).structs (found_view owner.ty) n
   pub declared : is_declared x.ty ≡ true
@@ -36,16 +36,16 @@ pub record IsTargetOf (pointer x : Elaborated) : Type 0 where
   pub tree : typed_expr_view x.tree ≡ target (typed_expr_view pointer.tree)
   pub ty : found_view x.ty ≡ behind (found_view pointer.ty)
   pub declared : is_declared x.ty ≡ true
-  pub resolved : IsKept pointer.ty x.ty
+  pub resolved : StaysResolved pointer.ty x.ty
 
 -- it is the address of an expression, which has a type where this is a place
 pub record IsAddressOf (e : CExpr) (place x : Elaborated) : Type 0 where
   pub tree : typed_expr_view x.tree ≡ address (typed_expr_view place.tree)
   pub ty : found_view x.ty ≡ if is_lvalue e then option_map pointer (found_view place.ty) else None
-  pub resolved : IsKept place.ty x.ty
+  pub resolved : StaysResolved place.ty x.ty
 
 -- it is an element of an array, by an index that may be written as a number
-pub record IsElementOf (f : SeenFunction) (array : Elaborated) (index : TExpr) (written : Option ℕ) (x : Elaborated) : Type 0 where
+pub record IsElaboratedElement (f : SeenFunction) (array : Elaborated) (index : TExpr) (written : Option ℕ) (x : Elaborated) : Type 0 where
   pub tree : typed_expr_view x.tree ≡ typed_element (elements_in (env_seen f).structs (found_view array.ty)) (typed_expr_view array.tree) index written
   pub ty : found_view x.ty ≡ element (found_view array.ty)
   pub declared : is_declared x.ty ≡ true

@@ -18,7 +18,7 @@ abbrev mutual
   are_free_of_calls done = true
   are_free_of_calls (next s rest) = is_free_of_calls s && are_free_of_calls rest
 
--- whether a body is of statements that call nothing
+-- whether a body is of statements that call nothing; `new` is no call here
 abbrev pub is_leaf : CBody → Bool
 is_leaf (code locals stmts answer) = are_free_of_calls stmts
 is_leaf (asm text span words) = false

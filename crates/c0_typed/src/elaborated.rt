@@ -10,7 +10,7 @@ ghost use Rattle.c0_meaning.specs.Sound.{shapes};
 ghost use Rattle.c0_meaning.specs.Ty.{pointer};
 ghost use Rattle.c0_meaning.specs.TypeAt as types;
 ghost use Rattle.c0_meaning.specs.TypeAt.{IsFoundResolved};
-ghost use Rattle.c0_typed.specs.Elaborated.{IsAddressOf, IsElaborated, IsElementOf, IsFieldOf, IsTargetOf, Means};
+ghost use Rattle.c0_typed.specs.Elaborated.{IsAddressOf, IsElaborated, IsElaboratedElement, IsElaboratedField, IsTargetOf, HasTreeAndType};
 ghost use Rattle.c0_typed.specs.SeenEnv.{unit_seen};
 ghost use Rattle.c0_typed.specs.Tree as tree;
 ghost use Rattle.c0_typed.specs.Typed as spec;
@@ -39,7 +39,7 @@ pub struct Elaborated<'a> {
 
 // A word that is known, of a type.
 fn constant<'a>(word: u32, ty: Found<'a>) -> Elaborated<'a>
-    ensures means { Means (tree.constant word) (found_view ty.entry) result }
+    ensures means { HasTreeAndType (tree.constant word) (found_view ty.entry) result }
     ensures resolved { (structs : List Shape) → IsFoundResolved structs ty.entry → IsFoundResolved structs result.ty }
 {
     Elaborated {
@@ -66,7 +66,7 @@ fn field<'a>(
     number: u32,
 ) -> Result<Elaborated<'a>, AllocError>
     requires { IsFoundResolved (shapes (unit_seen function.now)) owner.ty }
-    ensures { IfOk result (IsFieldOf function.now owner.entry number) }
+    ensures { IfOk result (IsElaboratedField function.now owner.entry number) }
 {
     let bytes = place::field_bytes(function, owner.ty, number);
     let ty = field_type(function.unit.unit, owner.ty, number);
@@ -96,7 +96,7 @@ fn element<'a>(
     number: Option<u32>,
 ) -> Result<Elaborated<'a>, AllocError>
     requires { IsFoundResolved (shapes (unit_seen function.now)) array.ty }
-    ensures { IfOk result (IsElementOf function.now array.entry (typed_expr_view index) number) }
+    ensures { IfOk result (IsElaboratedElement function.now array.entry (typed_expr_view index) number) }
 {
     let elements = place::elements_of(function, array.ty);
     let ty = element_of(array.ty);
@@ -142,7 +142,7 @@ fn unary<'a>(
     operand: TypedExpr,
     number: Option<u32>,
 ) -> Result<Elaborated<'a>, AllocError>
-    ensures means { IfOk result (Means (spec.typed_unary op (typed_expr_view operand) number) (Some (types.unary_type op))) }
+    ensures means { IfOk result (HasTreeAndType (spec.typed_unary op (typed_expr_view operand) number) (Some (types.unary_type op))) }
     ensures resolved { (structs : List Shape) → IfOk result (λ x. IsFoundResolved structs x.ty) }
 {
     Ok(Elaborated {
@@ -158,7 +158,7 @@ fn binary<'a>(
     left: TypedExpr,
     right: TypedExpr,
 ) -> Result<Elaborated<'a>, AllocError>
-    ensures means { IfOk result (Means (spec.typed_binary op (typed_expr_view left) (typed_expr_view right)) (Some (types.binary_type op))) }
+    ensures means { IfOk result (HasTreeAndType (spec.typed_binary op (typed_expr_view left) (typed_expr_view right)) (Some (types.binary_type op))) }
     ensures resolved { (structs : List Shape) → IfOk result (λ x. IsFoundResolved structs x.ty) }
 {
     Ok(Elaborated {

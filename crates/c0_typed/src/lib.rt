@@ -4,6 +4,7 @@
 //! [`typed_unit`] makes it of a unit whose names are resolved; the definitions are in `specs/`:
 //!
 //! - `Tree` the tree, `View` what contracts see of it, `Sorted` which operator of C0 each sorted one is.
+//! - `Seen` and `SeenEnv` what names stand for in a function that is read, `Elaborated` what an expression in it comes to, `Sized` that types are sized.
 //! - `Typed` the tree of each expression, statement, function and unit; `Leaf` which functions keep their variables in registers.
 //! - `Size` how large it is, `Laws` what is proved of it, `Rows` the trees of some expressions.
 #![tactic(auto)]

@@ -50,7 +50,7 @@ impl<'a> TypedUnit<'a> {
         self.unit
     }
 
-    /// The typed tree of the function of a number.
+    /// The typed tree of the function of a number, one of the unit's.
     pub fn function(&self, number: u32) -> &TypedFunction
         requires { number < length (unit_view self.now).functions }
         ensures { OfFunction (unit_view self.now) number (λ f. typed_function_view result.now ≡ typed_of_function (unit_view self.now) f) }
