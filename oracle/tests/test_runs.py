@@ -117,6 +117,18 @@ class Again(unittest.TestCase):
         with self.assertRaises(replay.Differs):
             made.check_report()
 
+    def test_programs_that_have_ended_may_get_an_answer(self):
+        """A kernel that answers each trap of a program by register 2, its end too, doesn't change it; one that sets register 3 does."""
+        for register, changed in ((2, set()), (3, {1})):
+            kernel = """int dispatch(int cause, int data, int user) { int next; bool ok; next = 1; if (cause == 6) { ok = vm_set(user, %d, 7); if (data == 76) { next = 0; } }
+                     return next; }""" % register
+            given = self.given(kernel, ['syscall 0\nsyscall 1'])
+            given.users[0].kind = 'c0'
+            made = replay.ReplayedRun(given)
+            while made.end is None:
+                made.go()
+            self.assertEqual((made.changed, made.over), (changed, {1}))
+
     def test_causes_in_words(self):
         users = [Flat([])]
         for call, words in ((run.Call(1, 1, 9, 1), 'lines 0 and 3'), (run.Call(1, 6, 140, 1), 'syscall 2 of user 1'), (run.Call(1, 8, 20484, 2), 'page 5 (address 20484)'),
