@@ -43,7 +43,7 @@ open_order s o a c b r = last_unpatched (order_node s (order_of o) a c b r)
 abbrev pub registers_node : CodeSetting → BinaryOp → (left right : TypedExpr) → Bool → ℕ → List Inst
 registers_node s o a c b r = compare_test None o (node_in s a) (node_in s c) b 0 r
 
--- both tests go to the place where they are b
+-- both tests go to the target where they are b
 abbrev pub joined_node : CodeSetting → (left right : TypedExpr) → Bool → ℕ → Unpatched
 joined_node s a c b r = joined_unpatched (open_node s a b r) (open_node (setting_told s a (not b)) c b r)
 
@@ -52,7 +52,7 @@ abbrev pub over_node : CodeSetting → (left right : TypedExpr) → Bool → ℕ
 over_node s a c b r =
     behind_unpatched (test_node s a (not b) (length (open_node (setting_told s a b) c b r).code % 2 ^ 16) r) (open_node (setting_told s a b) c b r)
 
--- `||` and `&&`: where the first test alone decides for b both go to the place, and else the first goes over the second
+-- `||` and `&&`: where the first test alone decides for b both go to the target, and else the first goes over the second
 abbrev pub logic_node : CodeSetting → (decides : Bool) → (left right : TypedExpr) → Bool → ℕ → Unpatched
 logic_node s decides a c b r = both_unpatched decides b (test_node s a) (open_node s a) (open_node (setting_told s a (not decides)) c) r
 

@@ -5,12 +5,12 @@ use Rattle.mips_table.specs.Encoding.{encoding}
 use Rattle.c0_expr_code.specs.Jumps.{Unpatched}
 use Rattle.c0_expr_code.specs.Test.{ImmediateTest, below_code, negative_branch, positive_branch}
 
--- open code stands behind other words, and its branches' places behind other places
+-- open code stands behind other words, and where its branches stand behind where others do
 pub record StandsUnpatched (old new marked marks : List ℕ) (x : Unpatched) : Type 0 where
   pub words : new ≡ old ++ map encoding x.code
   pub places : marks ≡ marked ++ map (λ j. length old + j) x.jumps
 
--- open code was appended to the code, and its branches' places to the places of others, unless memory was wanting
+-- open code was appended to the code, and where its branches stand to where others do, unless memory was wanting
 abbrev pub AppendsTest : {A B T E : Type 0} → (old new : Vec ℕ A) → (marked marks : Vec ℕ B) → Unpatched → Result T E → Type 0
 AppendsTest old new marked marks x result = OnOk result (StandsUnpatched old.items new.items marked.items marks.items x)
 

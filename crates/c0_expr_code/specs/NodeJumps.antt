@@ -1,4 +1,4 @@
--- The open code of a typed test: its branches to the place have no distance yet, and are patched later.
+-- The open code of a typed test: its branches to the target have no distance yet, and are patched later.
 use Rattle.std.specs.Prelude.{◌≡◌, ℕ, ◌+◌, ◌%◌, ◌^◌, ◌<◌, ◌≤◌, All, Bool, true, false, not, List, ◌++◌, length, map}
 use Rattle.mips_table.specs.Encoding.{encoding}
 use Rattle.c0_typed.specs.Tree.{TExpr, negation, plain, both, either}
@@ -15,7 +15,7 @@ node_unpatched st (both a b) s r = both_unpatched false s (node_test st a) (node
 node_unpatched st (either a b) s r = both_unpatched true s (node_test st a) (node_unpatched st a) (node_unpatched (where_told st a false) b) r
 node_unpatched st e s r = last_unpatched (plain_test (node_made st e) s 0 r)
 
--- A law: a typed test's open code, patched where it stands between other words, is the test's code with the distance to the place.
+-- A law: a typed test's open code, patched where it stands between other words, is the test's code with the distance to the target.
 abbrev pub NodePatchesAim : Type 0
 NodePatchesAim = (st : FrameSetting) (e : TExpr) (s : Bool) (r far to : ℕ) (before after : List ℕ) → far < 2 ^ 16
     → length before + length (node_unpatched st e s r).code < 2 ^ 64

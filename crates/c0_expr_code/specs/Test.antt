@@ -1,4 +1,4 @@
--- The code of a test: it goes to a place where the expression is s, and else falls through. The place is given by its distance from the
+-- The code of a test: it branches where the expression is s, and else falls through. The target is given by its distance from the
 -- end of the test's code, modulo 2 ^ 16.
 use Rattle.std.specs.Prelude.{ℕ, ◌+◌, ◌%◌, ◌^◌, Bool, true, false, not, ◌==◌, if◌then◌else◌, List, [], ◌∷◌, ◌++◌, length, Option, Some, None}
 use Rattle.mips_table.specs.declared.inst.Inst.{Inst}
@@ -14,17 +14,17 @@ use Rattle.c0_expr_code.specs.declared.facts.Facts.{Facts}
 use Rattle.c0_expr_code.specs.Scope.{Scope}
 use Rattle.c0_expr_code.specs.Code.{low, is_near, Made, one_code, two_code, made, right_facts}
 
--- to the place where two registers are equal, or where they differ
+-- to the target where two registers are equal, or where they differ
 abbrev pub branch_code : Bool → (q t far : ℕ) → Inst
 branch_code true q t far = Beq q t far
 branch_code false q t far = Bne q t far
 
--- to the place where a word is below 0, or where it isn't
+-- to the target where a word is below 0, or where it isn't
 abbrev pub negative_branch : Bool → (q far : ℕ) → Inst
 negative_branch true q far = Bltz q far
 negative_branch false q far = Bgez q far
 
--- to the place where a word is above 0, or where it isn't
+-- to the target where a word is above 0, or where it isn't
 abbrev pub positive_branch : Bool → (q far : ℕ) → Inst
 positive_branch true q far = Bgtz q far
 positive_branch false q far = Blez q far
@@ -89,7 +89,7 @@ abbrev pub compare_test : ImmediateTest → BinaryOp → Made → Made → Testi
 compare_test (Some f) o a b s far r = one_code (λ q. f s far q) a r
 compare_test None o a b s far r = two_code (λ q t. compare_code o s far q t) a b r
 
--- both tests: where the first alone decides for s it goes to the place, and else over the second
+-- both tests: where the first alone decides for s it goes to the target, and else over the second
 abbrev pub both_code : (decides s : Bool) → Testing → Testing → (far r : ℕ) → List Inst
 both_code true true a b far r = a true ((far + length (b true far r)) % 2 ^ 16) r ++ b true far r
 both_code true false a b far r = a true (length (b false far r) % 2 ^ 16) r ++ b false far r

@@ -1,5 +1,5 @@
-// Tests of typed expressions: code that goes to a place where an expression is true, or where it is false, and else falls through. Where
-// memory is wanting, a part of a test's code and of its branches' places may stand behind what stood before.
+// Tests of typed expressions: code that branches where an expression is true, or where it is false, and else falls through. Where
+// memory is wanting, a part of a test's code, and of the list of where its branches stand, may stand behind what stood before.
 
 ghost use Rattle.std.specs.Prelude.{◌≡◌, ◌+◌, ◌-◌, ◌≤◌, ◌<◌, ◌∷◌, [], ◌++◌, length, true, OnOk};
 ghost use Rattle.mips_table.specs.declared.inst.Inst.TheVariants.{Slt};
@@ -441,7 +441,7 @@ fn emit_both(
     }
 }
 
-// Appends two tests that go to the place both.
+// Appends two tests that go to the target both.
 #[cycle(testing)]
 fn emit_joined(
     alloc: Global,
