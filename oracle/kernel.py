@@ -47,7 +47,7 @@ class Kernel(Meaning):
         if a % 4:
             return 'the address %d is no multiple of 4' % a
         if a + 4 * n > 4096 * f.pages():
-            return 'address %d is past the %d pages of user %d, which end at %d' % (a + 4 * n - 4, f.pages(), u, 4096 * f.pages())
+            return 'address %d is past the %d pages of user %d, which end at %d' % (a + 4 * max(n, 1) - 4, f.pages(), u, 4096 * f.pages())
         return None
 
     def vm_get(self, u, r):
