@@ -68,9 +68,9 @@ def run_case(rest, source):
 
 
 def page_words(lines):
-    """The words of instructions as docs/COMPILER.md writes them: behind two blanks stands what they do, and jumps name addresses."""
+    """The words of instructions as docs/COMPILER.md writes them: behind two blanks stands what they do, or several stand in a line; jumps name addresses."""
     rows = []
-    for line in lines:
+    for line in [part for line in lines for part in line.split('; ')]:
         op, rest = re.match(r'(\w+) +(.*?)(?: {2}|$)', line).groups()
         rows.append('%s %s' % (op, int(rest, 0) // 4 if op in ('j', 'jal') else rest))
     return assemble('\n'.join(rows))
