@@ -22,7 +22,8 @@ use Rattle.alternating.specs.Text.{text as kernel_text}
 use Rattle.alternating.specs.Users.{user_1, user_2}
 use Rattle.alternating.specs.Property.{Alternating}
 
--- the report of the system once it has halted: six calls, the numbers 1 to 6 in the log, and each user behind its third call, with what it brought in register 4
+-- the report of the system once it has halted: six calls, the numbers 1 to 6 in the log, and each user behind its third call, with what it brought in register
+-- 4
 abbrev pub report_lines : List (List ℕ)
 report_lines =
     codes "halted"
@@ -60,4 +61,5 @@ AlternatingBoots = (words : List (List ℕ)) (status : Status) (old new : Outsid
     → (session : Session) (s : ImageSystem) (rows : Rows) (before : List (List ℕ)) → (h : IsHonest words session s rows before old new)
     → status ≢ Memory → session.view ≡ Boot → AsksSystem kernel_text (user_1 ∷ user_2 ∷ []) h.asked
     → (text : List ℕ) × (new.sink.text ≡ append_known old.sink.text text)
-    × AlternatingShown (environment_of rows old) (booted s rows) (start_state session s rows before) (steps_before session.start (booted s rows)) (length rows.lines) session.turns session.steps status text
+    × AlternatingShown (environment_of rows old) (booted s rows) (start_state session s rows before) (steps_before session.start (booted s rows))
+    (length rows.lines) session.turns session.steps status text

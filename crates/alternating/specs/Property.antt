@@ -1,5 +1,5 @@
--- What is proved of the system alternating: two users bring numbers by system calls, user 1 the odd ones and user 2 the even ones, and the kernel lets them call
--- in turn and logs what they bring. Whatever lines are raised, the log has the numbers from 1 on, in order, and the system halts behind the sixth.
+-- What is proved of the system alternating: two users bring numbers by system calls, user 1 the odd ones and user 2 the even ones, and the kernel lets them
+-- call in turn and logs what they bring. Whatever lines are raised, the log has the numbers from 1 on, in order, and the system halts behind the sixth.
 use Rattle.std.specs.Prelude.{◌≡◌, ◌≤◌, ℕ, zero, suc, ◌+◌, ◌==◌, if◌then◌else◌, pos, List, [], ◌∷◌, ◌++◌, length, Some}
 use Rattle.mips_table.specs.Flat.{Flat}
 use Rattle.mips_table.specs.Machine.{Console}
@@ -73,8 +73,8 @@ status_behind calls = if calls == 6 then Halted else Running
 abbrev pub console_behind : (input : List ℕ) → (calls : ℕ) → Console
 console_behind input calls = record { log = logged_numbers calls; input = input }
 
--- WHAT IS SO after k turns, of users with these machines at the start: the log has the numbers from 1 on, one for each call; each machine is after its own steps,
--- whatever lines came; each turn was the first, a step, a call or lines that were taken; and the system has halted exactly behind the sixth call
+-- WHAT IS SO after k turns, of users with these machines at the start: the log has the numbers from 1 on, one for each call; each machine is after its own
+-- steps, whatever lines came; each turn was the first, a step, a call or lines that were taken; and the system has halted exactly behind the sixth call
 pub record Alternates (input : List ℕ) (f g : Flat) (k : ℕ) (past : List Dispatch) (c : Core) : Type 0 where
   pub calls : ℕ
   pub few : calls ≤ 6
@@ -102,4 +102,5 @@ pub record RunsAlternating (y : System) : Type 0 where
 -- THE THEOREM: whatever lines are raised, each turn ends within 300 units of its dispatch, and each state from the first turn on is such
 abbrev pub UsersAlternate : Type 0
 UsersAlternate = (y : System) → RunsAlternating y → (lines : ℕ → ℕ) → HasEight lines → (k : ℕ)
-    → ((c : Cvm) × (cvm y lines 300 k ≡ Some c)) × ((c : Cvm) → IsCvm y lines (suc k) c → SystemHolds (HasUsers y) (Alternating y) (suc k) (dispatches_of y lines 300 (suc k)) c)
+    → ((c : Cvm) × (cvm y lines 300 k ≡ Some c))
+    × ((c : Cvm) → IsCvm y lines (suc k) c → SystemHolds (HasUsers y) (Alternating y) (suc k) (dispatches_of y lines 300 (suc k)) c)

@@ -34,7 +34,8 @@ ended_by_trap steps rest answer f = after (suc rest) (told (after (suc steps) f)
 -- WHAT A RUN SHOWS of two users that ask with v and w, are answered by v and by the sum, and end: the state where it stands has the invariant; its status is no
 -- kernel's fault; and under a schedule of so many `line` rows, with as many turns more as the users' steps and five, and with the steps of the machine for
 -- them, it is done, has halted, and printed at most five rows more than there are `line` rows, and then the report, in which each user stands behind its end
-pub record AnswersShown (x : Environment) (y : System) (s : State) (late raised turns steps a b c d v w : ℕ) (f g : Flat) (status : Status) (text : List ℕ) : Type 0 where
+pub record AnswersShown (x : Environment) (y : System) (s : State) (late raised turns steps a b c d v w : ℕ) (f g : Flat) (status : Status)
+    (text : List ℕ) : Type 0 where
   pub shown : SystemShown x y s late raised turns steps 100 (HasUsers y) (Answering y a b c d v w f g) status text
   pub no_fault : status ≢ KernelFault
   pub halted : 5 + a + b + c + d + raised ≤ turns → steps_for y (5 + a + b + c + d + raised) (5 + raised) 100 0 + late ≤ steps
@@ -48,5 +49,6 @@ AnyUsersAnswered = (one two : List ℕ) (a b c d v w : ℕ) → AsksAndEnds (fir
     → (session : Session) (s : ImageSystem) (rows : Rows) (before : List (List ℕ)) → (h : IsHonest words session s rows before old new)
     → status ≢ Memory → session.view ≡ Boot → AsksSystem kernel_text (one ∷ two ∷ []) h.asked
     → (text : List ℕ) × (new.sink.text ≡ append_known old.sink.text text)
-    × AnswersShown (environment_of rows old) (booted s rows) (start_state session s rows before) (steps_before session.start (booted s rows)) (length rows.lines) session.turns session.steps
+    × AnswersShown (environment_of rows old) (booted s rows) (start_state session s rows before) (steps_before session.start (booted s rows))
+    (length rows.lines) session.turns session.steps
     a b c d v w (first_flat one) (first_flat two) status text

@@ -110,4 +110,5 @@ Answering y a b c d v w f g k past at = IsAnswering y a b c d v w f g k past at 
 abbrev pub AnswersAreRight : Type 0
 AnswersAreRight = (y : System) (a b c d v w : ℕ) (r : RunsAnswering y a b c d v w) (lines : ℕ → ℕ) → HasEight lines → (k : ℕ)
     → ((m : Cvm) × (cvm y lines 100 k ≡ Some m))
-    × ((m : Cvm) → IsCvm y lines (suc k) m → SystemHolds (HasUsers y) (Answering y a b c d v w (first_flat r.one) (first_flat r.two)) (suc k) (dispatches_of y lines 100 (suc k)) m)
+    × ((m : Cvm) → IsCvm y lines (suc k) m
+    → SystemHolds (HasUsers y) (Answering y a b c d v w (first_flat r.one) (first_flat r.two)) (suc k) (dispatches_of y lines 100 (suc k)) m)

@@ -1,6 +1,7 @@
 -- What is answered of bytes: the fields in the order of the file, then the parts, then the end; the first that isn't as it is to be
 -- answers.
-use Rattle.std.specs.Prelude.{ℕ, zero, suc, ◌≡◌, ◌+◌, ◌*◌, ◌<◌, ◌||◌, slice_index, List, [], ◌∷◌, ◌++◌, length, take, drop, codes, nat_lt, nat_eq, Result, Ok, Err, if◌then◌else◌}
+use Rattle.std.specs.Prelude.{ℕ, zero, suc, ◌≡◌, ◌+◌, ◌*◌, ◌<◌, ◌||◌, slice_index, List, [], ◌∷◌}
+use Rattle.std.specs.Prelude.{◌++◌, length, take, drop, codes, nat_lt, nat_eq, Result, Ok, Err, if◌then◌else◌}
 use Rattle.std.specs.Str.{bytes_eq}
 use Rattle.byteorder.specs.Endian.{little_number}
 use Rattle.layer_map.specs.declared.params.Params.{Params}
@@ -123,7 +124,8 @@ old_answer bytes = do
 
 -- laws of a reading: bytes that are answered by an image are its spelling, and the spelling of each image is answered by it
 abbrev pub AnswersAreSpelled : (List ℕ → Result ImageParts ImageFault) → (IsFit : ImageParts → Type 0) → Type 0
-AnswersAreSpelled read IsFit = (bytes : List ℕ) → ((i : ℕ) → slice_index bytes i < 256) → (image : ImageParts) → read bytes ≡ Ok image → IsFit image × (bytes ≡ spelling image)
+AnswersAreSpelled read IsFit =
+    (bytes : List ℕ) → ((i : ℕ) → slice_index bytes i < 256) → (image : ImageParts) → read bytes ≡ Ok image → IsFit image × (bytes ≡ spelling image)
 
 abbrev pub SpellingsAreAnswered : (List ℕ → Result ImageParts ImageFault) → (IsFit : ImageParts → Type 0) → Type 0
 SpellingsAreAnswered read IsFit = (image : ImageParts) → IsFit image → read (spelling image) ≡ Ok image

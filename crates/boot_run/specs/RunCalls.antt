@@ -1,5 +1,6 @@
 -- THE SCRIPTS OF THE CALLS of a loaded run: turns, the report, and a run to its end; over a disk that tells its sectors exactly, and else some calls.
-use Rattle.std.specs.Prelude.{◌≡◌, ℕ, zero, suc, ◌+◌, ◌-◌, ◌≤◌, ⊤, if◌then◌else◌, Bool, true, false, Option, Some, None, List, [], ◌++◌, Result, Ok, Err, IfOk, IfErr, OnErr}
+use Rattle.std.specs.Prelude.{◌≡◌, ℕ, zero, suc, ◌+◌, ◌-◌, ◌≤◌, ⊤, if◌then◌else◌, Bool, true, false}
+use Rattle.std.specs.Prelude.{Option, Some, None, List, [], ◌++◌, Result, Ok, Err, IfOk, IfErr, OnErr}
 use Rattle.mips_table.specs.Device.{Environment}
 use Rattle.mips_table.specs.Machine.{State}
 use Rattle.schedule_file.specs.Rows.{Rows}

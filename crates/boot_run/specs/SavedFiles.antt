@@ -26,4 +26,5 @@ SavedBootsAreOfRuns = (b : Booted) (rows : Rows) (count : ℕ) (old left : List 
     Bootable b rows count (system_of b rows) (loaded (system_of b rows) old) 1 (user_sectors (system_of b rows)) old →
     (a : SavedAt (outside_of rows count) (system_of b rows) (loaded (system_of b rows) old) few spent words left shown) → 1 ≤ few → few ≤ turns →
     turns < 2 ^ 32 → spent < 2 ^ 64 →
-    IsOfRun (outside_of rows count) (wanted_of (boot_of b) rows.inputs turns) (run (outside_of rows count) (loaded (system_of b rows) old) a.at) few a.past.core.current
+    IsOfRun (outside_of rows count) (wanted_of (boot_of b) rows.inputs turns)
+    (run (outside_of rows count) (loaded (system_of b rows) old) a.at) few a.past.core.current

@@ -15,7 +15,8 @@ use Rattle.boot_turns.specs.Tracing.{ended_kept, kept_after, WhereCopied, WhereT
 
 -- those of entries of the journal, which are read from no page: they are put behind the row of the steps that have none, and where the sink fails there
 -- are some
-pub record PutsEntries {O T : Type 0} (told : sink_of.Ghosts O) (out reout : O) (kept new : Tracer) (entries : List JournalEntry) (result : Result T SinkFault) :
+pub record PutsEntries {O T : Type 0} (told : sink_of.Ghosts O) (out reout : O) (kept new : Tracer) (entries : List JournalEntry)
+    (result : Result T SinkFault) :
     Type 0 where
   pub put : Prints told out reout (journal_rows_after false kept.steps entries) result
   pub steps : OnOk result (new ≡ record kept { steps = steps_after kept.steps entries })

@@ -30,4 +30,5 @@ pub record Shown (x : Environment) (s : State) (y : System) (u t : ℕ) (j : Lis
   pub past : Cvm
   pub cvm : cvm y (lines_of_turn x s) units (complete x s t) ≡ Some past
   pub enough : complete x s t < turn_of x s t → ended_since x s t ≤ length (turn_calls y units (complete x s t) (lines_of_turn x s (complete x s t)) past)
-  pub is : j ≡ journal y (lines_of_turn x s) units u (complete x s t) ++ (if nat_lt (complete x s t) (turn_of x s t) then entries_so_far x s y units u t else [])
+  pub is : j ≡ journal y (lines_of_turn x s) units u (complete x s t)
+      ++ (if nat_lt (complete x s t) (turn_of x s t) then entries_so_far x s y units u t else [])

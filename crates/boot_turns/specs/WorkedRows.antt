@@ -79,7 +79,8 @@ pub record IsInputTaken : Type 0 where
 
 -- of a machine that begins to read sector 7 in step 5, by a command that is busy for 3 steps: the transfer is due in step 8 alone
 pub record IsTransferDue : Type 0 where
-  pub by_step : map (λ t. script_of_step sampled (run sampled (power_on sector_reading eight_sectors []) t)) (range_with_len 0 11) ≡ replicate 8 [] ++ (Read 7 ∷ []) ∷ [] ∷ [] ∷ []
+  pub by_step : map (λ t. script_of_step sampled (run sampled (power_on sector_reading eight_sectors []) t)) (range_with_len 0 11) ≡ replicate 8 []
+      ++ (Read 7 ∷ []) ∷ [] ∷ [] ∷ []
   pub all : transfers sampled (power_on sector_reading eight_sectors []) 0 11 ≡ Read 7 ∷ []
   pub later : transfers sampled (power_on sector_reading eight_sectors []) 9 2 ≡ []
 

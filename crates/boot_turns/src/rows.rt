@@ -1,6 +1,7 @@
 // Worked rows of the definitions of turns. Each function says some, and does nothing.
 
-ghost use Rattle.boot_turns.specs.WorkedRows.{AreEarlyLinesTaken, AreLateLinesLeft, AreLinesOfASchedule, AreTurnsCounted, AreUsersInterrupted, IsInputTaken, IsTransferDue};
+ghost use Rattle.boot_turns.specs.WorkedRows.{AreEarlyLinesTaken, AreLateLinesLeft, AreLinesOfASchedule, AreTurnsCounted};
+ghost use Rattle.boot_turns.specs.WorkedRows.{AreUsersInterrupted, IsInputTaken, IsTransferDue};
 
 /// The turns of a small machine, with a line at each step from its start until it is off.
 pub fn a_line_at_each_step()

@@ -17,7 +17,8 @@ use Rattle.c0_meaning.specs.Fault.{Fault, kept_all}
 use Rattle.c0_meaning.specs.Expression.{span_of, resolved}
 use Rattle.c0_meaning.specs.DeclaredTypes.{type_faults}
 use Rattle.c0_meaning.specs.Resolved.{resolved_type}
-use Rattle.c0_meaning.specs.Statement.{parameter_types, call_faults, new_faults, args_faults, given_faults, tested_faults, deep_faults, left_type, left_faults, stmt_faults, stmts_faults, stmt_resolved, stmts_resolved}
+use Rattle.c0_meaning.specs.Statement.{parameter_types, call_faults, new_faults, args_faults, given_faults, tested_faults, deep_faults}
+use Rattle.c0_meaning.specs.Statement.{left_type, left_faults, stmt_faults, stmts_faults, stmt_resolved, stmts_resolved}
 
 -- an expression is checked where a type may be asked: its faults are met, and its names are resolved
 abbrev pub ChecksGiven : Env → Option Ty → CExpr → Option Fault → Option Fault → CExpr → Type 0

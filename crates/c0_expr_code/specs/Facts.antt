@@ -1,5 +1,6 @@
 -- What is known of a function's variables at a place of its code: which of those in the frame a register has too, and which surely aren't null.
-use Rattle.std.specs.Prelude.{◌≡◌, ◌≢◌, ℕ, ◌+◌, ◌%◌, ◌^◌, Bool, true, false, not, ◌&&◌, ◌==◌, nat_lt, if◌then◌else◌, List, [], ◌∷◌, replicate, get_or, slice_set, Option, Some, None, IsTrue}
+use Rattle.std.specs.Prelude.{◌≡◌, ◌≢◌, ℕ, ◌+◌, ◌%◌, ◌^◌, Bool, true, false, not, ◌&&◌, ◌==◌}
+use Rattle.std.specs.Prelude.{nat_lt, if◌then◌else◌, List, [], ◌∷◌, replicate, get_or, slice_set, Option, Some, None, IsTrue}
 use Rattle.masm.specs.declared.registers.TheConstants.{ANSWER, ARGUMENTS}
 use Rattle.c0_meaning.specs.Value.{Region, locals, Value, null, get}
 use Rattle.c0_typed.specs.declared.sorted.Plain.{Plain}

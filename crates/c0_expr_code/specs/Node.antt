@@ -19,7 +19,9 @@ use Rattle.c0_expr_code.specs.declared.facts.Facts.{Facts}
 use Rattle.c0_expr_code.specs.Facts.{is_sure_pointer, register_holding, register_of_variable}
 use Rattle.c0_expr_code.specs.FrameSetting.{FrameSetting, frame_back, frame_setting, where_told}
 use Rattle.c0_expr_code.specs.Code as code
-use Rattle.c0_expr_code.specs.Code.{AddressingMode, Made, access_code, at_place, bound_code, displaced, frame_made, immediate_of, is_never_zero, logic_code, made, null_test, one_code, only_value, operand_code, operand_register, operator_made, register_made, shift_within, sum_made, two_code, POWERS}
+use Rattle.c0_expr_code.specs.Code.{AddressingMode, Made, access_code, at_place, bound_code, displaced, frame_made, immediate_of}
+use Rattle.c0_expr_code.specs.Code.{is_never_zero, logic_code, made, null_test, one_code, only_value, operand_code, operand_register}
+use Rattle.c0_expr_code.specs.Code.{operator_made, register_made, shift_within, sum_made, two_code, POWERS}
 use Rattle.c0_expr_code.specs.Emit.{scaled_at}
 use Rattle.c0_expr_code.specs.Test.{Testing, both_code, compare_test, immediate_test_of, plain_test, test_code}
 

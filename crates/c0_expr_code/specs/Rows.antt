@@ -1,7 +1,8 @@
 -- The code of some expressions, word by word.
 use Rattle.std.specs.Prelude.{◌≡◌, ℕ, Bool, true, false, List, [], ◌∷◌}
 use Rattle.mips_table.specs.declared.inst.Inst.{Inst}
-use Rattle.mips_table.specs.declared.inst.Inst.TheVariants.{Addu, Subu, Xor, Slt, J, Beq, Bne, Bltz, Addiu, Slti, Sltiu, Sltu, Ori, Xori, Lui, Lw, Sw, Sll, Mult, Div as Divide, Mfhi, Mflo}
+use Rattle.mips_table.specs.declared.inst.Inst.TheVariants.{Addu, Subu, Xor, Slt, J, Beq, Bne, Bltz, Addiu, Slti, Sltiu}
+use Rattle.mips_table.specs.declared.inst.Inst.TheVariants.{Sltu, Ori, Xori, Lui, Lw, Sw, Sll, Mult, Div as Divide, Mfhi, Mflo}
 use Rattle.c0_tree.specs.declared.tree.Kind.{Kind}
 use Rattle.c0_tree.specs.declared.tree.Kind.TheVariants.{Global, Local, Field}
 use Rattle.c0_tree.specs.declared.tree.UnaryOp.TheVariants.{Negate, Not}

@@ -1,5 +1,6 @@
 -- The laws of runs of the code of expressions.
-use Rattle.std.specs.Prelude.{◌≡◌, ◌≢◌, ℕ, ◌+◌, ◌-◌, ◌*◌, ◌%◌, ◌^◌, ◌<◌, ◌≤◌, Bool, true, false, List, [], ◌∷◌, ◌++◌, length, None, Some, slice_get, IsTrue, ◌⊎◌}
+use Rattle.std.specs.Prelude.{◌≡◌, ◌≢◌, ℕ, ◌+◌, ◌-◌, ◌*◌, ◌%◌, ◌^◌, ◌<◌, ◌≤◌, Bool, true}
+use Rattle.std.specs.Prelude.{false, List, [], ◌∷◌, ◌++◌, length, None, Some, slice_get, IsTrue, ◌⊎◌}
 use Rattle.mips_table.specs.Code.{put, Contents, reg, with_reg, Behind, World, Sound, at_with, Reaches, CodeAt}
 use Rattle.mips_table.specs.Device.{Idle}
 use Rattle.masm.specs.declared.registers.TheConstants.{SCRATCH, ARGUMENTS}

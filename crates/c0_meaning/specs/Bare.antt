@@ -2,7 +2,8 @@
 -- spans, is to be compared with that of a text: `bare` of the text's unit is the tree.
 use Rattle.std.specs.Prelude.{◌≡◌, ℕ, ℤ, map}
 use Rattle.c0_tree.specs.declared.tree.Span.{Span}
-use Rattle.c0_tree.specs.Tree.{CName, CTy, CExpr, num, true_, false_, null, var, field, arrow, index, deref, address, unary, binary, CStmt, assign, call, new, choice, loop, CStmts, done, next, CDecl, CStruct, CBody, code, asm, CFunction, CUnit}
+use Rattle.c0_tree.specs.Tree.{CName, CTy, CExpr, num, true_, false_, null, var, field, arrow, index, deref, address, unary, binary, CStmt}
+use Rattle.c0_tree.specs.Tree.{assign, call, new, choice, loop, CStmts, done, next, CDecl, CStruct, CBody, code, asm, CFunction, CUnit}
 use Rattle.c0_tree.specs.Tree as tree
 use Rattle.c0_meaning.specs.Env.{typed_of}
 use Rattle.c0_meaning.specs.Words.{all_words}

@@ -1,4 +1,5 @@
--- A law on what calls of primitives tell: each entry that a checked kernel's dispatch makes passes a test, where primitives pass it on arguments of their types.
+-- A law on what calls of primitives tell: each entry that a checked kernel's dispatch makes passes a test, where primitives pass it on arguments of their
+-- types.
 use Rattle.std.specs.Prelude.{◌≡◌, ℕ, ℤ, List, Some, slice_get, IsTrue, Bool, FitsSigned}
 use Rattle.std.specs.List.{list_all}
 use Rattle.std.specs.Int.{w32}
@@ -14,7 +15,8 @@ use Rattle.c0_meaning.specs.Unit.{IsChecked}
 -- what a call makes passes, over values of the world that are right
 abbrev pub EntriesPass : {W E : Type 0} → (W → Bool) → (E → Bool) → List CPrimitive → PrimitiveMeaning W E → Type 0
 EntriesPass is_right test table meaning =
-    (n : ℕ) (row : CPrimitive) (args : Values) (w : _) → slice_get table n ≡ Some row → AreScalars row.args args → IsTrue (is_right w) → IsTrue (list_all test (meaning n args w).entries)
+    (n : ℕ) (row : CPrimitive) (args : Values) (w : _) → slice_get table n ≡ Some row → AreScalars row.args args → IsTrue (is_right w)
+    → IsTrue (list_all test (meaning n args w).entries)
 
 -- a law: and so do all entries of a dispatch
 abbrev pub DispatchesPass : (W E : Type 0) → Type 0

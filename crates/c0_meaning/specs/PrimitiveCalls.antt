@@ -25,7 +25,8 @@ cost_made meaning (call ∷ rest) world = let r = meaning call.number call.args 
 
 -- Between two places of a run, with this cost, just these primitives were called: the world's value, the entries, the units that are a
 -- primitive's and the pages are those of the calls, and nothing else changed them.
-pub record AreMadeBy {W E : Type 0} (meaning : PrimitiveMeaning W E) (made : List PrimitiveCall) (c : Configuration W E) (cost : Cost) (d : Configuration W E) : Type 0 where
+pub record AreMadeBy {W E : Type 0} (meaning : PrimitiveMeaning W E) (made : List PrimitiveCall) (c : Configuration W E) (cost : Cost)
+    (d : Configuration W E) : Type 0 where
   pub world : d.world ≡ world_after meaning made c.world
   pub calls : d.calls ≡ c.calls ++ entries_made meaning made c.world
   pub units : cost.primitive ≡ (cost_made meaning made c.world).primitive

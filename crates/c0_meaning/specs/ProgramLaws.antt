@@ -21,8 +21,10 @@ pub record AnswersAheadDontMatter : Type 0 where
 -- program that has ended has no further one.
 pub record ArgumentsStay : Type 0 where
   pub extend : (u : CUnit) (given : List ℤ) (m n : ℕ) → m ≤ n → (more : List ℤ) × ((prog u given n).arguments ≡ (prog u given m).arguments ++ more)
-  pub agree : (u : CUnit) (given : List ℤ) (m n i : ℕ) (a b : ℤ) → slice_get (prog u given m).arguments i ≡ Some a → slice_get (prog u given n).arguments i ≡ Some b → a ≡ b
-  pub ended : (u : CUnit) (given : List ℤ) (m n i : ℕ) (a : ℤ) → HasEnded (prog u given m).ending → slice_get (prog u given n).arguments i ≡ Some a → i < length (prog u given m).arguments
+  pub agree : (u : CUnit) (given : List ℤ) (m n i : ℕ) (a b : ℤ) → slice_get (prog u given m).arguments i ≡ Some a
+      → slice_get (prog u given n).arguments i ≡ Some b → a ≡ b
+  pub ended : (u : CUnit) (given : List ℤ) (m n i : ℕ) (a : ℤ) → HasEnded (prog u given m).ending → slice_get (prog u given n).arguments i ≡ Some a
+      → i < length (prog u given m).arguments
   pub same_end : (u : CUnit) (given : List ℤ) (m n : ℕ) → HasEnded (prog u given m).ending → HasEnded (prog u given n).ending → prog u given m ≡ prog u given n
 
 -- a law: a unit without its spans in the source is the program that the unit is

@@ -57,4 +57,5 @@ LeadToMade p m j n (Stop k f d) es = ⊥
 
 -- where a function of this number and these locals begins, called with these arguments
 abbrev pub entering : {W E : Type 0} → Setting W E → ℕ → List CDecl → Values → Configuration W E → Configuration W E
-entering p n locals args c = with_state c (pushed (record { function = n; variables = group (followed_by args (zeros_of (shapes p.unit) (map typed_of locals))) }) c.state)
+entering p n locals args c = with_state c
+    (pushed (record { function = n; variables = group (followed_by args (zeros_of (shapes p.unit) (map typed_of locals))) }) c.state)

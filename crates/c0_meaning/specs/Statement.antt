@@ -8,7 +8,8 @@ use Rattle.c0_tree.specs.Size.{need, args_need}
 use Rattle.c0_meaning.specs.Ty.{Ty, bool, pointer, ty_of, same_ty, is_scalar}
 use Rattle.c0_meaning.specs.Env.{Env, Callee, callee_named}
 use Rattle.c0_meaning.specs.Fault.{Fault, fault, UNKNOWN_NAME, WRONG_TYPE, WRONG_COUNT, NOT_A_PLACE, TOO_DEEP}
-use Rattle.c0_meaning.specs.Expression.{Verdict, has, wrong, type_given, own, rule_on_one, rule_on_both, span_of, is_lvalue, type_asked, asked_faults, type_of, faults, resolved}
+use Rattle.c0_meaning.specs.Expression.{Verdict, has, wrong, type_given, own, rule_on_one, rule_on_both}
+use Rattle.c0_meaning.specs.Expression.{span_of, is_lvalue, type_asked, asked_faults, type_of, faults, resolved}
 
 -- the registers that an expression may need
 abbrev pub MAX_NEED : ℕ

@@ -103,12 +103,15 @@ AreScalars ts vs = AllFit [] (record { globals = []; objects = [] }) (map scalar
 
 -- the answers of primitives have the types of their table, over values of the world that pass a test, which stay so
 pub record AnswersFit {W E : Type 0} (is_right : W → Bool) (table : List CPrimitive) (meaning : PrimitiveMeaning W E) : Type 0 where
-  pub answer : (n : ℕ) (row : CPrimitive) (args : Values) (w : W) → slice_get table n ≡ Some row → AreScalars row.args args → IsTrue (is_right w) → IsScalar row.answer (meaning n args w).answer
-  pub world : (n : ℕ) (row : CPrimitive) (args : Values) (w : W) → slice_get table n ≡ Some row → AreScalars row.args args → IsTrue (is_right w) → IsTrue (is_right (meaning n args w).world)
+  pub answer : (n : ℕ) (row : CPrimitive) (args : Values) (w : W) → slice_get table n ≡ Some row → AreScalars row.args args → IsTrue (is_right w)
+      → IsScalar row.answer (meaning n args w).answer
+  pub world : (n : ℕ) (row : CPrimitive) (args : Values) (w : W) → slice_get table n ≡ Some row → AreScalars row.args args → IsTrue (is_right w)
+      → IsTrue (is_right (meaning n args w).world)
 
 -- a run that is done has answered a value of a type, in a typed state
 abbrev pub AnswersTyped : {W E : Type 0} → CUnit → Ty → Outcome W E → Type 0
-AnswersTyped u t (Done used c) = (objects : List Ty) × IsTypedWith u objects c.state × ((v : Value) × (c.answer ≡ Some v) × Fits (shapes u) (store_typing u objects) t v)
+AnswersTyped u t (Done used c) =
+    (objects : List Ty) × IsTypedWith u objects c.state × ((v : Value) × (c.answer ≡ Some v) × Fits (shapes u) (store_typing u objects) t v)
 AnswersTyped u t (Failed used f c) = Unit {0}
 AnswersTyped u t (NotYet used c) = Unit {0}
 

@@ -131,5 +131,6 @@ IsChecked = IsCheckedAs Kernel
 -- a unit without faults that holds small numbers, short lists and allowed words, its names resolved, is checked
 abbrev pub FaultlessIsChecked : Type 0
 FaultlessIsChecked =
-    (program : Program) (u : CUnit) → is_plain u ≡ true → program_faults program u ≡ [] → resolved_unit (primitives_of program) u ≡ u → AreWordsAllowed u.functions
+    (program : Program) (u : CUnit) → is_plain u ≡ true → program_faults program u ≡ [] → resolved_unit (primitives_of program) u ≡ u
+    → AreWordsAllowed u.functions
     → IsCheckedAs program u

@@ -19,7 +19,13 @@ trap_argument _ = pos 0
 
 -- `trap`: the world's value is the answers that are left, the journal the arguments; past the last answer it answers 0
 abbrev pub trap : PrimitiveMeaning (List ℤ) ℤ
-trap n args answers = record { answer = value.int (unwrap_or (slice_get answers 0) (pos 0)); world = drop 1 answers; entries = trap_argument args ∷ []; pages = 0; words = 0 }
+trap n args answers = record {
+  answer = value.int (unwrap_or (slice_get answers 0) (pos 0));
+  world = drop 1 answers;
+  entries = trap_argument args ∷ [];
+  pages = 0;
+  words = 0;
+}
 
 -- how a program ended
 pub data ProgramEnding : Type 0 where
@@ -46,4 +52,5 @@ outcome_seen (NotYet k c) = record { arguments = journal_so_far c; ending = not_
 -- `main` of a unit, within n units, where the i-th call of `trap` answers the i-th of a list; heap and stack have 1024 words each
 abbrev pub prog : CUnit → List ℤ → ℕ → Seen
 prog u answers n =
-    up_to answers (outcome_seen (call_first (record { unit = u; heap = 1024; stack = 1024; meaning = trap }) n (first_number User u) empty (first_state u) answers))
+    up_to answers (outcome_seen (call_first (record { unit = u; heap = 1024; stack = 1024; meaning = trap }) n (first_number User u) empty
+    (first_state u) answers))

@@ -5,7 +5,9 @@ use Rattle.c0_meaning.specs.Fault as spec
 use Rattle.c0_name_check.specs.declared.met.Fault.{Fault}
 use Rattle.c0_name_check.specs.declared.met.Fault.TheVariants.{Wrong, BadLine}
 use Rattle.c0_name_check.specs.declared.met.Mistake.{Mistake}
-use Rattle.c0_name_check.specs.declared.met.Mistake.TheVariants.{UnknownName, NameTwice, WrongType, WrongCount, NotAPlace, LocalAddress, StructHoldsItself, TooDeep, TooManyNodes, UnitTooLarge, GlobalsTooLarge, NoDispatch, TooManyParameters, TypeTooLarge, EmptyArray, NoMain}
+use Rattle.c0_name_check.specs.declared.met.Mistake.TheVariants.{UnknownName, NameTwice, WrongType, WrongCount, NotAPlace, LocalAddress}
+use Rattle.c0_name_check.specs.declared.met.Mistake.TheVariants.{StructHoldsItself, TooDeep, TooManyNodes, UnitTooLarge, GlobalsTooLarge, NoDispatch}
+use Rattle.c0_name_check.specs.declared.met.Mistake.TheVariants.{TooManyParameters, TypeTooLarge, EmptyArray, NoMain}
 
 -- the number of a mistake
 abbrev pub mistake_number : Mistake → ℕ

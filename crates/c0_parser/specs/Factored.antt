@@ -4,7 +4,8 @@ use Rattle.c0_tokens.specs.Tokens.{CToken}
 use Rattle.c0_tokens.specs.declared.token.Mark.TheVariants.{Struct, Semicolon}
 use Rattle.c0_tree.specs.Tree.{CDecl, CStruct, CFunction}
 use Rattle.c0_parser.specs.Sorts.{the_end}
-use Rattle.c0_parser.specs.Value.{SemanticValue, token, pair, none, snoc, base_value, type_suffixes, decl_of, defined_at, struct_of, structs_of_value, globals_of_value, functions_of_value}
+use Rattle.c0_parser.specs.Value.{SemanticValue, token, pair, none, snoc, base_value, type_suffixes}
+use Rattle.c0_parser.specs.Value.{decl_of, defined_at, struct_of, structs_of_value, globals_of_value, functions_of_value}
 use Rattle.c0_parser.specs.Grammar.{Piece, one_of, sign, ◌▸◌, ◌or◌, many, NAME, BASIC, SUFFIXES, FIELDS, FUNCTION}
 
 -- what stands after the declaration of a global or a function

@@ -3,9 +3,13 @@
 use Rattle.std.specs.Prelude.{IsTrue, List, [], ◌∷◌, ◌++◌}
 use Rattle.c0_tokens.specs.Tokens.{CToken}
 use Rattle.c0_tokens.specs.declared.token.Mark.{Mark}
-use Rattle.c0_tokens.specs.declared.token.Mark.TheVariants.{Int, Bool as Boolean, Struct, If, Else, While, Return, New, True, False, Null, Asm, OpenBrace, CloseBrace, OpenParen, CloseParen, OpenBracket, CloseBracket, Semicolon, Comma, Dot, Arrow, Assign, Equal, NotEqual, Less, AtMost, Greater, AtLeast, Plus, Minus, Star, Slash, Percent, Not, Ampersand, And, Or}
+use Rattle.c0_tokens.specs.declared.token.Mark.TheVariants.{Int, Bool as Boolean, Struct, If, Else, While, Return, New, True, False, Null, Asm, OpenBrace}
+use Rattle.c0_tokens.specs.declared.token.Mark.TheVariants.{CloseBrace, OpenParen, CloseParen, OpenBracket, CloseBracket, Semicolon, Comma, Dot, Arrow, Assign}
+use Rattle.c0_tokens.specs.declared.token.Mark.TheVariants.{Equal, NotEqual, Less, AtMost, Greater, AtLeast, Plus, Minus, Star, Slash, Percent, Not, Ampersand}
+use Rattle.c0_tokens.specs.declared.token.Mark.TheVariants.{And, Or}
 use Rattle.c0_parser.specs.Sorts.{Sort, mark, a_name, a_number, an_asm_text, the_end, sort, among}
-use Rattle.c0_parser.specs.Value.{SemanticValue, token, pair, none, snoc, chain_value, unary_value, postfix_value, primary_value, type_value, decl_value, block_value, statement_value, code_value, body_value}
+use Rattle.c0_parser.specs.Value.{SemanticValue, token, pair, none, snoc, chain_value, unary_value, postfix_value}
+use Rattle.c0_parser.specs.Value.{primary_value, type_value, decl_value, block_value, statement_value, code_value, body_value}
 
 -- the productions
 pub data Rule : Type 0 where

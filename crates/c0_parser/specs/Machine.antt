@@ -1,10 +1,12 @@
 -- The grammar as a machine that reads token by token, with a stack of what is still wanted and a stack of what was read: for proofs.
 use Rattle.std.specs.Prelude.{◌≡◌, Bool, true, false, not, ◌&&◌, ◌||◌, cond, Option, Some, None, List, [], ◌∷◌}
 use Rattle.c0_tokens.specs.Tokens.{CToken}
-use Rattle.c0_tokens.specs.declared.token.Mark.TheVariants.{Int, Bool as Boolean, Struct, If, While, True, False, Null, Asm, OpenBrace, OpenParen, Minus, Star, Not, Ampersand}
+use Rattle.c0_tokens.specs.declared.token.Mark.TheVariants.{Int, Bool as Boolean, Struct, If, While, True, False, Null}
+use Rattle.c0_tokens.specs.declared.token.Mark.TheVariants.{Asm, OpenBrace, OpenParen, Minus, Star, Not, Ampersand}
 use Rattle.c0_parser.specs.Sorts.{Sort, mark, a_name, a_number, sort, among}
 use Rattle.c0_parser.specs.Value.{SemanticValue, token, pair, none, snoc}
-use Rattle.c0_parser.specs.Grammar.{Rule, disjunction, conjunction, equality, relation, sum, product, unary, postfix, primary, type, decl, block, statement, code, body, Piece, one_of, sign, ◌▸◌, ◌or◌, many, maybe, the, production, production_value}
+use Rattle.c0_parser.specs.Grammar.{Rule, disjunction, conjunction, equality, relation, sum, product, unary, postfix, primary, type, decl, block}
+use Rattle.c0_parser.specs.Grammar.{statement, code, body, Piece, one_of, sign, ◌▸◌, ◌or◌, many, maybe, the, production, production_value}
 
 -- the sort of a token
 abbrev pub kind : CToken → Sort

@@ -53,7 +53,8 @@ IsOtherwise (Some b) v = (t : CToken) × (v ≡ snoc none (pair (token t) (block
 -- a test, a block and perhaps a second one
 abbrev pub choice_view : Test → Block → Option Block → CStmt
 choice_view t first None = choice (record { start = t.start; end = first.span.end }) (expr_view t.expr) (stmts_view first.stmts.items) done
-choice_view t first (Some other) = choice (record { start = t.start; end = other.span.end }) (expr_view t.expr) (stmts_view first.stmts.items) (stmts_view other.stmts.items)
+choice_view t first (Some other) =
+    choice (record { start = t.start; end = other.span.end }) (expr_view t.expr) (stmts_view first.stmts.items) (stmts_view other.stmts.items)
 
 -- a test and a block
 abbrev pub loop_view : Test → Block → CStmt
@@ -67,7 +68,8 @@ IsReturned e v = (t : CToken) × (s : Span) × (x : CToken) × (y : CToken) × (
 pub record Opened (m : Mark) (ts : List CToken) (t : Test) (rest : List CToken) : Type 0 where
   pub word : CToken
   pub at_word : word.start ≡ t.start
-  pub goes : (p : Piece) (v : SemanticValue) (last : List CToken) → PieceReads p rest v last → (w : SemanticValue) × PieceReads (TESTED m p) ts w last × (statement_value w ≡ choice_value word (expr_view t.expr) v)
+  pub goes : (p : Piece) (v : SemanticValue) (last : List CToken) → PieceReads p rest v last → (w : SemanticValue) × PieceReads (TESTED m p) ts w last
+      × (statement_value w ≡ choice_value word (expr_view t.expr) v)
   pub fails : (p : Piece) (h : Halt) → PieceFails p rest h → PieceFails (TESTED m p) ts h
 
 -- a word and its test are read, or cannot be

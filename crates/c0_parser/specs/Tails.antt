@@ -63,5 +63,6 @@ NoLiteral ts (Left n) = (heads LITERAL (as_seen ts) ≡ false) × (length ts ≡
 
 -- a literal is taken
 abbrev pub GivesLiteral : (Part → CToken → Type 0) → List Token → Result (Part × Bor (List Token)) Halt → Type 0
-GivesLiteral Is ts (Ok r) = (t : CToken) × (as_seen ts ≡ t ∷ as_seen r.1.now) × (among (a_name ∷ a_number ∷ mark True ∷ mark False ∷ mark Null ∷ []) (kind t) ≡ true) × Is r.0 t
+GivesLiteral Is ts (Ok r) = (t : CToken) × (as_seen ts ≡ t ∷ as_seen r.1.now)
+    × (among (a_name ∷ a_number ∷ mark True ∷ mark False ∷ mark Null ∷ []) (kind t) ≡ true) × Is r.0 t
 GivesLiteral Is ts (Err h) = NoLiteral ts h

@@ -1,13 +1,15 @@
 -- What the parts of a source mean: the value of each production, from the values of its parts.
 use Rattle.std.specs.Prelude.{ℕ, List, [], ◌∷◌, ◌++◌}
-use Rattle.c0_tokens.specs.declared.token.Mark.TheVariants.{Bool as Boolean, True, False, Dot, Equal, NotEqual, Less, AtMost, Greater, AtLeast, Plus, Minus, Star, Slash, Percent, Not, And}
+use Rattle.c0_tokens.specs.declared.token.Mark.TheVariants.{Bool as Boolean, True, False, Dot, Equal, NotEqual, Less, AtMost, Greater}
+use Rattle.c0_tokens.specs.declared.token.Mark.TheVariants.{AtLeast, Plus, Minus, Star, Slash, Percent, Not, And}
 use Rattle.c0_tokens.specs.Tokens.{CLexeme, CToken, name, number, asm_text, fixed}
 use Rattle.c0_tree.specs.declared.tree.Span.{Span}
 use Rattle.c0_tree.specs.declared.tree.Kind.TheVariants.{Unresolved}
 use Rattle.c0_tree.specs.declared.tree.UnaryOp.TheVariants.{Negate, Not as Complement}
 use Rattle.c0_tree.specs.declared.tree.BinaryOp.{BinaryOp}
 use Rattle.c0_tree.specs.declared.tree.BinaryOp.TheVariants as op
-use Rattle.c0_tree.specs.Tree.{CName, CTy, int, bool, pointer, named, array, CExpr, num, true_, false_, null, var, field, arrow, index, deref, address, unary, binary, CStmt, assign, call, new, choice, loop, CStmts, done, CDecl, CStruct, CBody, code, asm, CFunction, CUnit}
+use Rattle.c0_tree.specs.Tree.{CName, CTy, int, bool, pointer, named, array, CExpr, num, true_, false_, null, var, field, arrow, index, deref, address}
+use Rattle.c0_tree.specs.Tree.{unary, binary, CStmt, assign, call, new, choice, loop, CStmts, done, CDecl, CStruct, CBody, code, asm, CFunction, CUnit}
 use Rattle.c0_tree.specs.View.{stmts_of}
 
 -- What a part of a source means. An expression and a type have the part of the source that they take, outer parentheses taken in.
@@ -216,7 +218,8 @@ block_value _ = none
 abbrev pub stored : Span → CExpr → SemanticValue → SemanticValue
 stored s p (expr r e) = stmt (assign s p e)
 stored s p (pair (token t) (type r ty)) = stmt (new s p ty r)
-stored s p (pair (token x) (pair (token opening) (pair l (token closing)))) = stmt (call s p (across (token_span x) (token_span closing)) (parsed_name x) (args_of l))
+stored s p (pair (token x) (pair (token opening) (pair l (token closing)))) =
+    stmt (call s p (across (token_span x) (token_span closing)) (parsed_name x) (args_of l))
 stored s p _ = none
 
 -- what stands behind `if ( test )`: a block, and perhaps `else` and a block
@@ -234,7 +237,8 @@ statement_value _ = none
 
 -- "{" { type NAME ";" } { statement } "return" expr ";" "}"
 abbrev pub code_value : SemanticValue → SemanticValue
-code_value (pair (token opening) (pair locals (pair l (pair (token t) (pair (expr s e) (pair (token semicolon) (token closing))))))) = body (code (decls locals) (stmts_of (stmts l)) e)
+code_value (pair (token opening) (pair locals (pair l (pair (token t) (pair (expr s e) (pair (token semicolon) (token closing))))))) =
+    body (code (decls locals) (stmts_of (stmts l)) e)
 code_value _ = none
 
 -- code | "asm" asmtext
@@ -251,7 +255,8 @@ parsed_params _ = []
 -- what stands behind the type and the name of a global or a function
 abbrev pub defined : CDecl → SemanticValue → SemanticValue
 defined d (token semicolon) = a_global d
-defined d (pair (token opening) (pair ps (pair (token closing) (body b)))) = a_function (record { answer = d.ty; answer_span = d.ty_span; name = d.name; params = parsed_params ps; body = b })
+defined d (pair (token opening) (pair ps (pair (token closing) (body b)))) =
+    a_function (record { answer = d.ty; answer_span = d.ty_span; name = d.name; params = parsed_params ps; body = b })
 defined d _ = none
 
 abbrev pub defined_at : SemanticValue → SemanticValue → SemanticValue

@@ -10,8 +10,10 @@ use Rattle.c0_tree.specs.declared.tree.Stmt.{Stmt}
 use Rattle.c0_tree.specs.declared.tree.Body.{Body}
 use Rattle.c0_tree.specs.Tree.{CTy, pointer, array, CExpr, CStmt, assign, call, new, CName, asm}
 use Rattle.c0_tree.specs.View.{name_view, type_view, expr_view, decl_view, stmt_view, stmts_view, struct_view, body_view, function_view}
-use Rattle.c0_parser.specs.Value.{SemanticValue, token, pair, expr, type, decl, stmt, block, body, a_struct, a_global, a_function, token_span, parsed_name, lexeme_text, defined}
-use Rattle.c0_parser.specs.Value.{struct_of, args_of, stmts, decls, decls_from, parsed_params, decls_in, type_suffixes, type_suffixed, literal_value, base_value}
+use Rattle.c0_parser.specs.Value.{SemanticValue, token, pair, expr, type, decl, stmt, block}
+use Rattle.c0_parser.specs.Value.{body, a_struct, a_global, a_function, token_span, parsed_name, lexeme_text, defined}
+use Rattle.c0_parser.specs.Value.{struct_of, args_of, stmts, decls, decls_from, parsed_params}
+use Rattle.c0_parser.specs.Value.{decls_in, type_suffixes, type_suffixed, literal_value, base_value}
 use Rattle.c0_parser.specs.Value.{stored}
 use Rattle.c0_parser.specs.Factored.{factored_value, declared_as, item_after_name}
 use Rattle.c0_parser.specs.declared.expressions.Part.{Part}

@@ -17,7 +17,8 @@ use Rattle.c0_expr_code.specs.Facts.{IsWithin}
 use Rattle.c0_expr_code.specs.Scope.{Scope}
 use Rattle.c0_expr_code.specs.Reads.{reads, Covers}
 use Rattle.c0_stmt_code.specs.Live.{live_at_place, is_live, are_live}
-use Rattle.c0_stmt_code.specs.Code.{Links, skip, answer_code, answered_facts, facts_behind_stmt, tested_facts, told_facts, turn_facts, while_code, stmt_code, stmts_code, return_code}
+use Rattle.c0_stmt_code.specs.Code.{Links, skip, answer_code, answered_facts, facts_behind_stmt, tested_facts}
+use Rattle.c0_stmt_code.specs.Code.{told_facts, turn_facts, while_code, stmt_code, stmts_code, return_code}
 
 -- a function that is under way, the word of the code to which it returns, which of its variables stand in the machine, and what is known of them
 pub record Activation : Type 0 where

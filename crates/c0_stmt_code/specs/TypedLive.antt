@@ -2,7 +2,8 @@
 use Rattle.std.specs.Prelude.{ℕ, Bool, false, not, ◌&&◌, ◌||◌, nat_eq, List, [], ◌∷◌}
 use Rattle.std.specs.List.{list_all}
 use Rattle.c0_typed.specs.declared.tree.LocalType.{LocalType}
-use Rattle.c0_typed.specs.Tree.{TExpr, global, local, part, element, target, constant, address, negative, negation, plain, quotient, remainder, both, either, TStmt, assign, call, new, choice, loop, TStmts, done, next}
+use Rattle.c0_typed.specs.Tree.{TExpr, global, local, part, element, target, constant, address, negative, negation, plain, quotient}
+use Rattle.c0_typed.specs.Tree.{remainder, both, either, TStmt, assign, call, new, choice, loop, TStmts, done, next}
 
 -- whether the parameter or local of a number stands in an expression
 abbrev pub typed_reads : TExpr → ℕ → Bool

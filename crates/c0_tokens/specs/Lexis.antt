@@ -1,5 +1,6 @@
 -- How a source is cut into tokens, whatever their nesting is.
-use Rattle.std.specs.Prelude.{ℕ, zero, suc, ◌+◌, ◌-◌, ◌*◌, Bool, true, false, ◌&&◌, ◌||◌, ◌==◌, nat_le, nat_lt, if◌then◌else◌, option_map, unwrap_or, find, List, [], ◌∷◌, length, drop, fold, take_while, bytes_eq}
+use Rattle.std.specs.Prelude.{ℕ, zero, suc, ◌+◌, ◌-◌, ◌*◌, Bool, true, false, ◌&&◌, ◌||◌, ◌==◌, nat_le}
+use Rattle.std.specs.Prelude.{nat_lt, if◌then◌else◌, option_map, unwrap_or, find, List, [], ◌∷◌, length, drop, fold, take_while, bytes_eq}
 use Rattle.std.specs.List.{starts_with, position_or_len, before_first, after_first}
 use Rattle.c0_tokens.specs.declared.token.Mark.TheVariants.{Asm}
 use Rattle.c0_tokens.specs.declared.token.TokenFault.TheVariants.{BadByte, BadNumber}

@@ -1,7 +1,10 @@
 -- How the reserved words and the marks are written.
 use Rattle.std.specs.Prelude.{ℕ, List, [], ◌∷◌, codes}
 use Rattle.c0_tokens.specs.declared.token.Mark.{Mark}
-use Rattle.c0_tokens.specs.declared.token.Mark.TheVariants.{Int, Bool, Struct, If, Else, While, Return, New, True, False, Null, Asm, OpenBrace, CloseBrace, OpenParen, CloseParen, OpenBracket, CloseBracket, Semicolon, Comma, Dot, Arrow, Assign, Equal, NotEqual, Less, AtMost, Greater, AtLeast, Plus, Minus, Star, Slash, Percent, Not, Ampersand, And, Or}
+use Rattle.c0_tokens.specs.declared.token.Mark.TheVariants.{Int, Bool, Struct, If, Else, While, Return, New, True, False, Null, Asm, OpenBrace, CloseBrace}
+use Rattle.c0_tokens.specs.declared.token.Mark.TheVariants.{OpenParen, CloseParen, OpenBracket, CloseBracket, Semicolon, Comma, Dot, Arrow, Assign, Equal}
+use Rattle.c0_tokens.specs.declared.token.Mark.TheVariants.{NotEqual, Less, AtMost, Greater, AtLeast, Plus, Minus, Star, Slash, Percent, Not, Ampersand, And}
+use Rattle.c0_tokens.specs.declared.token.Mark.TheVariants.{Or}
 
 -- how it is written, and the reserved word or mark
 abbrev pub Spelling : Type 0

@@ -2,7 +2,8 @@
 -- struct has a field. What a source reads as is so.
 use Rattle.std.specs.Prelude.{ℕ, suc, ◌^◌, ◌&&◌, nat_lt, nat_le, Bool, true, false, List, [], ◌∷◌, length}
 use Rattle.std.specs.List.{list_all}
-use Rattle.c0_tree.specs.Tree.{CExpr, num, true_, false_, null, var, field, arrow, index, deref, address, unary, binary, CStmt, assign, call, new, choice, loop, CStmts, done, next, CStruct, CBody, code, asm, CUnit}
+use Rattle.c0_tree.specs.Tree.{CExpr, num, true_, false_, null, var, field, arrow, index, deref, address, unary, binary, CStmt}
+use Rattle.c0_tree.specs.Tree.{assign, call, new, choice, loop, CStmts, done, next, CStruct, CBody, code, asm, CUnit}
 
 -- whether the numbers in an expression are at most 2147483647
 abbrev pub is_plain_expr : CExpr → Bool
@@ -34,7 +35,8 @@ abbrev mutual
   is_plain_stmt (assign s p v) = is_plain_expr p && is_plain_expr v
   is_plain_stmt (call s p cs f args) = is_plain_expr p && (is_short args && list_all is_plain_expr args)
   is_plain_stmt (new s p t ts) = is_plain_expr p
-  is_plain_stmt (choice s t a b) = is_plain_expr t && (nat_lt (stmts_length a) (2 ^ 32) && (nat_lt (stmts_length b) (2 ^ 32) && (are_plain_stmts a && are_plain_stmts b)))
+  is_plain_stmt (choice s t a b) =
+      is_plain_expr t && (nat_lt (stmts_length a) (2 ^ 32) && (nat_lt (stmts_length b) (2 ^ 32) && (are_plain_stmts a && are_plain_stmts b)))
   is_plain_stmt (loop s t b) = is_plain_expr t && (nat_lt (stmts_length b) (2 ^ 32) && are_plain_stmts b)
 
   pub are_plain_stmts : CStmts → Bool

@@ -1,6 +1,7 @@
 -- What contracts see of the tree.
 use Rattle.std.specs.Prelude.{List, [], ◌∷◌, map}
-use Rattle.c0_tree.specs.Tree.{CName, CTy, int, bool, pointer, named, array, CExpr, num, true_, false_, null, var, field, arrow, index, deref, address, unary, binary, CStmt, assign, call, new, choice, loop, CStmts, done, next, CDecl, CStruct, CBody, code, asm, CFunction, CUnit}
+use Rattle.c0_tree.specs.Tree.{CName, CTy, int, bool, pointer, named, array, CExpr, num, true_, false_, null, var, field, arrow, index, deref, address}
+use Rattle.c0_tree.specs.Tree.{unary, binary, CStmt, assign, call, new, choice, loop, CStmts, done, next, CDecl, CStruct, CBody, code, asm, CFunction, CUnit}
 use Rattle.c0_tree.specs.declared.tree.Name.{Name}
 use Rattle.c0_tree.specs.declared.tree.CType.{CType, fold-CType}
 use Rattle.c0_tree.specs.declared.tree.CType.TheOpen.{CType-F}

@@ -13,7 +13,8 @@ use Rattle.c0_meaning.specs.Bare.{z}
 use Rattle.c0_typed.specs.declared.sorted.Order.TheVariants.{GreaterOrEqual}
 use Rattle.c0_typed.specs.declared.sorted.Plain.TheVariants.{Sum, Order}
 use Rattle.c0_typed.specs.declared.tree.Elements.{Elements}
-use Rattle.c0_typed.specs.Tree.{TExpr, global, local, part, element, target, constant, address, negative, negation, plain, remainder, both, assign, call, new, loop, done}
+use Rattle.c0_typed.specs.Tree.{TExpr, global, local, part, element, target, constant, address, negative}
+use Rattle.c0_typed.specs.Tree.{negation, plain, remainder, both, assign, call, new, loop, done}
 use Rattle.c0_typed.specs.Typed.{typed_of_expr, typed_of_stmt}
 
 -- a name by its kind and number

@@ -23,7 +23,8 @@ use Rattle.c0_typed.specs.declared.sorted.Plain.TheVariants.{Sum, Difference, Pr
 use Rattle.c0_typed.specs.declared.tree.Elements.{Elements}
 use Rattle.c0_typed.specs.declared.tree.LocalType.{LocalType}
 use Rattle.c0_typed.specs.Leaf.{calls_in, keeps_registers}
-use Rattle.c0_typed.specs.Tree.{TExpr, global, local, part, element, target, constant, address, negative, negation, plain, quotient, remainder, both, either, TStmt, assign, call, new, choice, loop, TStmts, done, next, TBody, code, asm, TFunction}
+use Rattle.c0_typed.specs.Tree.{TExpr, global, local, part, element, target, constant, address, negative, negation, plain, quotient, remainder, both}
+use Rattle.c0_typed.specs.Tree.{either, TStmt, assign, call, new, choice, loop, TStmts, done, next, TBody, code, asm, TFunction}
 
 -- the entry of a number, and 0 where there is none
 abbrev pub entry : List ℕ → ℕ → ℕ

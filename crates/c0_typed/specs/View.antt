@@ -1,6 +1,7 @@
 -- What contracts see of the typed tree.
 use Rattle.std.specs.Prelude.{List, [], ◌∷◌, map}
-use Rattle.c0_typed.specs.Tree.{TExpr, global, local, part, element, target, constant, address, negative, negation, plain, quotient, remainder, both, either, TStmt, assign, call, new, choice, loop, TStmts, done, next, TBody, code, asm, TFunction}
+use Rattle.c0_typed.specs.Tree.{TExpr, global, local, part, element, target, constant, address, negative, negation, plain, quotient, remainder, both}
+use Rattle.c0_typed.specs.Tree.{either, TStmt, assign, call, new, choice, loop, TStmts, done, next, TBody, code, asm, TFunction}
 use Rattle.c0_typed.specs.declared.tree.TypedExpr.{TypedExpr, fold-TypedExpr}
 use Rattle.c0_typed.specs.declared.tree.TypedExpr.TheOpen.{TypedExpr-F}
 use Rattle.c0_typed.specs.declared.tree.TypedStmt.{TypedStmt, fold-TypedStmt}

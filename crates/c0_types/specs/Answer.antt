@@ -5,9 +5,13 @@ use Rattle.c0_tree.specs.declared.primitive.Program.TheVariants.{Kernel}
 use Rattle.c0_tree.specs.declared.tree.Span.{Span}
 use Rattle.c0_tree.specs.Tree.{CUnit}
 use Rattle.c0_meaning.specs.Fault as spec
-use Rattle.c0_meaning.specs.Fault.{IsLeast, fault, UNKNOWN_NAME, NAME_TWICE, WRONG_TYPE, WRONG_COUNT, NOT_A_PLACE, LOCAL_ADDRESS, STRUCT_HOLDS_ITSELF, TOO_DEEP, TOO_MANY_NODES, UNIT_TOO_LARGE, GLOBALS_TOO_LARGE, NO_DISPATCH, ASM_NOT_ALLOWED, TOO_MANY_PARAMETERS, TYPE_TOO_LARGE, EMPTY_ARRAY, NO_MAIN}
+use Rattle.c0_meaning.specs.Fault.{IsLeast, fault, UNKNOWN_NAME, NAME_TWICE, WRONG_TYPE, WRONG_COUNT, NOT_A_PLACE}
+use Rattle.c0_meaning.specs.Fault.{LOCAL_ADDRESS, STRUCT_HOLDS_ITSELF, TOO_DEEP, TOO_MANY_NODES, UNIT_TOO_LARGE, GLOBALS_TOO_LARGE, NO_DISPATCH}
+use Rattle.c0_meaning.specs.Fault.{ASM_NOT_ALLOWED, TOO_MANY_PARAMETERS, TYPE_TOO_LARGE, EMPTY_ARRAY, NO_MAIN}
 use Rattle.c0_types.specs.declared.fault.TypeFault.{TypeFault}
-use Rattle.c0_types.specs.declared.fault.TypeFault.TheVariants.{UnknownName, NameTwice, WrongType, WrongCount, NotAPlace, LocalAddress, StructHoldsItself, TooDeep, TooManyNodes, UnitTooLarge, GlobalsTooLarge, NoDispatch, AsmNotAllowed, TooManyParameters, TypeTooLarge, EmptyArray, NoMain, Memory}
+use Rattle.c0_types.specs.declared.fault.TypeFault.TheVariants.{UnknownName, NameTwice, WrongType, WrongCount, NotAPlace, LocalAddress}
+use Rattle.c0_types.specs.declared.fault.TypeFault.TheVariants.{StructHoldsItself, TooDeep, TooManyNodes, UnitTooLarge, GlobalsTooLarge, NoDispatch}
+use Rattle.c0_types.specs.declared.fault.TypeFault.TheVariants.{AsmNotAllowed, TooManyParameters, TypeTooLarge, EmptyArray, NoMain, Memory}
 use Rattle.c0_types.specs.Source.{source_faults_as}
 
 -- the fault that is answered, but for want of memory

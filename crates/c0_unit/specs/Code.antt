@@ -32,7 +32,12 @@ functions_at = layer_words + ENTRY_WORDS
 
 -- what the code of a function depends on
 abbrev pub scope : CUnit → CFunction → Scope
-scope u f = record { env = env_in u f; in_registers = keeps_registers f; frame = words_of_frame (shapes u) f; exit = λ fault. slice_index fault_exits (exit_number fault) / 4 }
+scope u f = record {
+  env = env_in u f;
+  in_registers = keeps_registers f;
+  frame = words_of_frame (shapes u) f;
+  exit = λ fault. slice_index fault_exits (exit_number fault) / 4;
+}
 
 -- the code of functions, one behind the other
 abbrev pub functions_code : CUnit → Links → List CFunction → List Inst

@@ -51,7 +51,8 @@ pub record UnitStands (u : CUnit) (first : ℕ) (p : CodeAddresses) : Type 0 whe
   pub multiply : StandsIn u first (p.multiply / 4) multiply_code
   pub divide : StandsIn u first (p.divide / 4) (divide_code (zero_exit p))
   pub remainder : StandsIn u first (p.remainder / 4) (remainder_code (zero_exit p))
-  pub functions : (n : ℕ) (f : CFunction) → slice_get u.functions n ≡ Some f → StandsIn u first ((links_of p).function n) (function_code (scope_of u f p) (links_of p) f)
+  pub functions : (n : ℕ) (f : CFunction) → slice_get u.functions n ≡ Some f
+      → StandsIn u first ((links_of p).function n) (function_code (scope_of u f p) (links_of p) f)
   pub words : length (unit_code u first) ≡ code_words u
   pub in_range : All InRange (unit_code u first)
   pub exits : (fault : KernelFault) → exit_of p fault ≡ exits_at + exit_number fault
@@ -64,10 +65,12 @@ UnitsStand = (table : List CPrimitive) (u : CUnit) → IsWellFormed table u → 
 
 -- a law: each well-formed tree has its addresses, whether it stands in memory or not; and so has each well-formed unit
 abbrev pub TreesHaveAddresses : Type 0
-TreesHaveAddresses = (table : List CPrimitive) (u : CUnit) → IsWellFormed table u → (first : ℕ) → (p : CodeAddresses) × AreAddressesOf u first p × AreCodeAddresses p
+TreesHaveAddresses = (table : List CPrimitive) (u : CUnit) → IsWellFormed table u → (first : ℕ) → (p : CodeAddresses)
+    × AreAddressesOf u first p × AreCodeAddresses p
 
 abbrev pub UnitsHaveAddresses : Type 0
-UnitsHaveAddresses = (table : List CPrimitive) (s : Source) → IsWellFormed table (unit_view s) → (first : ℕ) → (p : CodeAddresses) × AreAddressesOf (unit_view s) first p × AreCodeAddresses p
+UnitsHaveAddresses = (table : List CPrimitive) (s : Source) → IsWellFormed table (unit_view s) → (first : ℕ) → (p : CodeAddresses)
+    × AreAddressesOf (unit_view s) first p × AreCodeAddresses p
 
 -- a law: a unit's code has at most 512 words, and 32 for each node
 abbrev pub UnitsAreShort : Type 0

@@ -1,5 +1,6 @@
 -- The CVM run: its state, one turn, and the turns from the start, with what they may cost.
-use Rattle.std.specs.Prelude.{◌≡◌, ℕ, zero, suc, ◌+◌, ◌-◌, ◌*◌, ◌≤◌, ℤ, pos, negsuc, ◌==◌, nat_lt, if◌then◌else◌, List, [], ◌∷◌, ◌++◌, length, map, replicate, bit_or, Option, Some, None}
+use Rattle.std.specs.Prelude.{◌≡◌, ℕ, zero, suc, ◌+◌, ◌-◌, ◌*◌, ◌≤◌, ℤ, pos, negsuc, ◌==◌, nat_lt}
+use Rattle.std.specs.Prelude.{if◌then◌else◌, List, [], ◌∷◌, ◌++◌, length, map, replicate, bit_or, Option, Some, None}
 use Rattle.mips_table.specs.Arith.{signed}
 use Rattle.mips_table.specs.Machine.{cause_number}
 use Rattle.mips_table.specs.Flat.{Flat, VStep, Goes, Trap, vstep}
@@ -134,7 +135,8 @@ dispatch_of y n cause edata c = y.boot.meaning.dispatch n c (pos cause) (signed 
 
 -- a turn that dispatches
 abbrev pub dispatches : System → ℕ → ℕ → Cvm → (cause edata : ℕ) → Core → ℕ → Option Cvm
-dispatches y n k c cause edata at pending = after_dispatch y c k cause edata at.current pending (dispatch_of y n cause edata at) (dispatch_of y n cause edata at).end
+dispatches y n k c cause edata at pending =
+    after_dispatch y c k cause edata at.current pending (dispatch_of y n cause edata at) (dispatch_of y n cause edata at).end
 
 -- the turn once it has begun
 abbrev pub begun : System → ℕ → ℕ → Cvm → Begin → Option Cvm

@@ -13,7 +13,8 @@ use Rattle.cvm_model.specs.Kernel.{Core, Changes, Answers, Faults, NotYet, Dispa
 use Rattle.cvm_model.specs.KernelMeaning.{Machines, kernel_meaning, core_at, UnitsAreKernels}
 use Rattle.cvm_model.specs.Primitives.{pages_of, user_of, with_user}
 use Rattle.cvm_model.specs.Stands.{IsUser, input_room}
-use Rattle.cvm_model.specs.Cvm.{System, Cvm, Status, Running, Faulted, Begin, Steps, Traps, Interrupts, begin, cvm, IsCvm, dispatch_of, next_of, first_core, UnitsDontMatter}
+use Rattle.cvm_model.specs.Cvm.{System, Cvm, Status, Running, Faulted, Begin, Steps, Traps}
+use Rattle.cvm_model.specs.Cvm.{Interrupts, begin, cvm, IsCvm, dispatch_of, next_of, first_core, UnitsDontMatter}
 use Rattle.cvm_model.specs.declared.row.Next.{Next}
 use Rattle.cvm_model.specs.declared.row.Next.TheVariants.{User, Halt, Fault}
 use Rattle.cvm_model.specs.declared.row.Row.{Row}
@@ -123,14 +124,17 @@ pub record KeptAt (y : System) (I : Property) (k cause edata : ℕ) (past : List
   pub answers : d.answer ≡ Some (int answer)
   pub proper : IsProper (next_of (length y.boot.users) answer)
   pub kept : let next = next_of (length y.boot.users) answer in
-      I (past ++ record { turn = k; cause = cause; edata = edata; before = at; after = core_at at d; next = next } ∷ []) (core_at at d).c0 (current_after next at.current)
+      I (past ++ record { turn = k; cause = cause; edata = edata; before = at; after = core_at at d; next = next } ∷ []) (core_at at d).c0
+      (current_after next at.current)
 
 -- A property that the dispatch of the start sets up, and each later one keeps: where lines are taken, of which there are eight, and where the current
 -- user traps. Each may use what is known.
 pub record IsInvariant (y : System) (n : ℕ) (Fit : Core → Type 0) (I : Property) : Type 0 where
   pub start : Fit (first_core y) → Keeps y n I 0 0 0 [] (first_core y)
-  pub line : (k mask : ℕ) (past : List Dispatch) (at : Core) → 1 ≤ mask → mask < 2 ^ 8 → Fit at → IsUser at at.current → I past at.c0 at.current → Keeps y n I (suc k) 1 mask past at
-  pub trap : (k : ℕ) (cause : Cause) (edata : ℕ) (past : List Dispatch) (before at : Core) → IsTrapOf before cause edata at → Fit at → IsUser at at.current → I past at.c0 at.current
+  pub line : (k mask : ℕ) (past : List Dispatch) (at : Core) → 1 ≤ mask → mask < 2 ^ 8 → Fit at → IsUser at at.current → I past at.c0 at.current
+      → Keeps y n I (suc k) 1 mask past at
+  pub trap : (k : ℕ) (cause : Cause) (edata : ℕ) (past : List Dispatch) (before at : Core) → IsTrapOf before cause edata at → Fit at → IsUser at at.current
+      → I past at.c0 at.current
       → Keeps y n I (suc k) (cause_number cause) edata past at
 
 -- a status that is no kernel's fault

@@ -104,7 +104,8 @@ pub record KernelMeaning : Type 0 where
 
 -- with more units a dispatch comes to the same end, or is at least as far; and a bad next user is no end of it
 pub record MeaningLaws (e : KernelMeaning) : Type 0 where
-  pub same : (n k : ℕ) (c : Core) (cause edata user : ℤ) → (e.dispatch n c cause edata user).end ≢ NotYet → e.dispatch (n + k) c cause edata user ≡ e.dispatch n c cause edata user
+  pub same : (n k : ℕ) (c : Core) (cause edata user : ℤ) → (e.dispatch n c cause edata user).end ≢ NotYet → e.dispatch (n + k) c cause edata user
+      ≡ e.dispatch n c cause edata user
   pub more : (n k : ℕ) (c : Core) (cause edata user : ℤ) →
       take (length (e.dispatch n c cause edata user).calls) (e.dispatch (n + k) c cause edata user).calls ≡ (e.dispatch n c cause edata user).calls
   pub proper : (n : ℕ) (c : Core) (cause edata user : ℤ) → (e.dispatch n c cause edata user).end ≢ Faults BadUser

@@ -17,7 +17,8 @@ use Rattle.cvm_model.specs.Kernel.{Core, Changes, DispatchEnd, Answers, Faults, 
 use Rattle.cvm_model.specs.declared.kernel_fault.KernelFault.{KernelFault}
 use Rattle.cvm_model.specs.declared.kernel_fault.KernelFault.TheVariants.{NullUse, Bounds, DivZero, StackOut}
 use Rattle.cvm_model.specs.Journal.{KernelReplays}
-use Rattle.cvm_model.specs.Primitives.{KernelCall, VmGet, VmSet, VmSize, VmResize, VmWord, VmPut, VmCopy, ConPut, ConGet, ConLeft, Given, primitive_number, arguments_of, prim, changes_told}
+use Rattle.cvm_model.specs.Primitives.{KernelCall, VmGet, VmSet, VmSize, VmResize, VmWord, VmPut, VmCopy}
+use Rattle.cvm_model.specs.Primitives.{ConPut, ConGet, ConLeft, Given, primitive_number, arguments_of, prim, changes_told}
 
 -- what primitives act on: users' machines of at most so many pages, and the console
 pub record Machines : Type 0 where
@@ -42,7 +43,13 @@ call_numbered k other = None
 
 -- what it comes to: a number or arguments that no primitive has, as no checked unit gives them, answer null, which is no int and no bool
 abbrev pub after_primitive : Machines → KernelCall → Given → Called Machines Changes
-after_primitive m call g = record { answer = g.answer; world = record m { users = g.users; console = g.console }; entries = changes_told call g ∷ []; pages = g.pages; words = g.words }
+after_primitive m call g = record {
+  answer = g.answer;
+  world = record m { users = g.users; console = g.console };
+  entries = changes_told call g ∷ [];
+  pages = g.pages;
+  words = g.words;
+}
 
 abbrev pub primitive_called : Machines → Option KernelCall → Called Machines Changes
 primitive_called m (Some call) = after_primitive m call (prim m.most call m.users m.console)

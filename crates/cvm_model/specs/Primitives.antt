@@ -1,5 +1,6 @@
 -- The primitives: what each call answers and changes, the words that it touches and the pages that it uses.
-use Rattle.std.specs.Prelude.{ℕ, zero, suc, ◌+◌, ◌-◌, ◌*◌, ◌/◌, ◌%◌, ℤ, pos, negsuc, nat_abs, Bool, true, false, not, ◌&&◌, ◌||◌, ◌==◌, nat_lt, nat_le, if◌then◌else◌, List, [], ◌∷◌, ◌++◌, length, take, drop, replicate, slice_index, slice_index_or, slice_set}
+use Rattle.std.specs.Prelude.{ℕ, zero, suc, ◌+◌, ◌-◌, ◌*◌, ◌/◌, ◌%◌, ℤ, pos, negsuc, nat_abs, Bool, true, false, not, ◌&&◌, ◌||◌, ◌==◌, nat_lt, nat_le}
+use Rattle.std.specs.Prelude.{if◌then◌else◌, List, [], ◌∷◌, ◌++◌, length, take, drop, replicate, slice_index, slice_index_or, slice_set}
 use Rattle.std.specs.Int.{cast_unsigned, w32}
 use Rattle.mips_table.specs.Arith.{signed}
 use Rattle.mips_table.specs.Flat.{Flat}
@@ -124,17 +125,26 @@ is_good most users (VmWord u a) = is_within 1 (length users) u && is_address (us
 is_good most users (VmPut u a v) = is_within 1 (length users) u && is_address (user_of users (nat_abs u)) a 1
 is_good most users (VmCopy u a v b (negsuc n)) = false
 is_good most users (VmCopy u a v b (pos n)) = is_within 1 (length users) u && is_within 1 (length users) v
-    && is_address (user_of users (nat_abs u)) a n && is_address (user_of users (nat_abs v)) b n && not (nat_abs u == nat_abs v && ranges_overlap (nat_abs a) (nat_abs b) n)
+    && is_address (user_of users (nat_abs u)) a n && is_address (user_of users (nat_abs v)) b n
+    && not (nat_abs u == nat_abs v && ranges_overlap (nat_abs a) (nat_abs b) n)
 is_good most users other = true
 
 -- what is answered where nothing changes
 abbrev pub unchanged : List Flat → Console → Value → ℕ → ℕ → Given
-unchanged users console answer words pages = record { answer = answer; users = users; console = console; changes = record { user = 0; entries = [] }; words = words; pages = pages }
+unchanged users console answer words pages =
+    record { answer = answer; users = users; console = console; changes = record { user = 0; entries = [] }; words = words; pages = pages }
 
 -- what is answered where the machine of user u becomes f
 abbrev pub changed : List Flat → Console → ℕ → Flat → List JournalEntry → ℕ → ℕ → Given
 changed users console u f entries words pages =
-    record { answer = bool true; users = with_user users u f; console = console; changes = record { user = u; entries = entries }; words = words; pages = pages }
+    record {
+      answer = bool true;
+      users = with_user users u f;
+      console = console;
+      changes = record { user = u; entries = entries };
+      words = words;
+      pages = pages;
+    }
 
 -- what a bad call answers
 abbrev pub refused : KernelCall → Value
@@ -162,7 +172,8 @@ granted users o (VmPut u a v) =
     changed users o (nat_abs u) (with_word (user_of users (nat_abs u)) (nat_abs a) value) (Put (nat_abs a) value ∷ []) 1 1
 granted users o (VmCopy u a v b n) =
     let words = take (nat_abs n) (drop (nat_abs a / 4) (user_of users (nat_abs u)).words) in
-    changed users o (nat_abs v) (with_words (user_of users (nat_abs v)) (nat_abs b) words) (put_entries (nat_abs b) words) (nat_abs n) (3 * copy_pieces (nat_abs a) (nat_abs b) (nat_abs n))
+    changed users o (nat_abs v) (with_words (user_of users (nat_abs v)) (nat_abs b) words) (put_entries (nat_abs b) words) (nat_abs n)
+    (3 * copy_pieces (nat_abs a) (nat_abs b) (nat_abs n))
 granted users o (ConPut w) =
     let has = log_has_room o.log in
     unchanged users (if has then record o { log = o.log ++ cast_unsigned w32 w ∷ [] } else o) (bool has) 0 0

@@ -1,5 +1,6 @@
 -- "The machine stands for this CVM state", in six parts.
-use Rattle.std.specs.Prelude.{◌≡◌, ℕ, ◌+◌, ◌*◌, ◌<◌, ◌≤◌, Bool, true, false, ◌&&◌, ◌||◌, ◌==◌, nat_lt, nat_le, List, [], ◌∷◌, length, take, drop, slice_index, bit_or, All}
+use Rattle.std.specs.Prelude.{◌≡◌, ℕ, ◌+◌, ◌*◌, ◌<◌, ◌≤◌, Bool, true, false, ◌&&◌, ◌||◌, ◌==◌}
+use Rattle.std.specs.Prelude.{nat_lt, nat_le, List, [], ◌∷◌, length, take, drop, slice_index, bit_or, All}
 use Rattle.mips_table.specs.Device.{Idle, Environment}
 use Rattle.mips_table.specs.declared.special.TheConstants.{SR, PTO, PTL}
 use Rattle.mips_table.specs.Fits.{IsWord}

@@ -51,7 +51,8 @@ pub record KeepsIfOver (y : System) (n : ℕ) (I : SystemProperty) (k cause edat
   pub kept : (dispatch_of y n cause edata at).end ≢ NotYet → DispatchKept y n I k cause edata past at
 
 -- where the code of a dispatch is done, with an answer: so the rules for code serve this rule, by `keeps_all_by` of proofs/KeepsSystem
-pub record KeptAllAt (y : System) (I : SystemProperty) (k cause edata : ℕ) (past : List Dispatch) (at : Core) (d : Configuration Machines Changes) : Type 0 where
+pub record KeptAllAt (y : System) (I : SystemProperty) (k cause edata : ℕ) (past : List Dispatch) (at : Core)
+    (d : Configuration Machines Changes) : Type 0 where
   pub answer : ℤ
   pub answers : d.answer ≡ Some (int answer)
   pub kept : let next = next_of (length y.boot.users) answer in
@@ -64,9 +65,11 @@ pub record IsKeptBy (y : System) (Fit : Core → Type 0) (I : SystemProperty) (K
   pub start : Fit (first_core y) → Keeps 0 0 0 [] (first_core y)
   pub line : (k mask : ℕ) (past : List Dispatch) (c : Core) → 1 ≤ mask → mask < 2 ^ 8 → Fit c → IsUser c c.current → status_after past ≡ Running
       → I (suc k) past c → Keeps (suc k) 1 mask past c
-  pub trap : (k : ℕ) (cause : Cause) (edata : ℕ) (past : List Dispatch) (before at : Core) → IsTrapOf before cause edata at → Fit before → IsUser before before.current →
+  pub trap : (k : ℕ) (cause : Cause) (edata : ℕ) (past : List Dispatch) (before at : Core) → IsTrapOf before cause edata at → Fit before
+      → IsUser before before.current →
       Fit at → IsUser at at.current → status_after past ≡ Running → I (suc k) past before → Keeps (suc k) (cause_number cause) edata past at
-  pub step : (k : ℕ) (past : List Dispatch) (c : Core) (f : Flat) → vstep (user_of c.users c.current) ≡ Goes f → Fit c → IsUser c c.current → Fit (with_machine c f) →
+  pub step : (k : ℕ) (past : List Dispatch) (c : Core) (f : Flat) → vstep (user_of c.users c.current) ≡ Goes f → Fit c → IsUser c c.current
+      → Fit (with_machine c f) →
       status_after past ≡ Running → I (suc k) past c → I (suc (suc k)) past (with_machine c f)
 
 abbrev pub IsSystemInvariant : System → ℕ → (Core → Type 0) → SystemProperty → Type 0

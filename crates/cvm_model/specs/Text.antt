@@ -35,7 +35,8 @@ next_text (Fault f) = codes "fault " ++ fault_name f
 
 -- the row of a dispatch
 abbrev pub row_text : Row → List ℕ
-row_text r = codes "turn " ++ decimal r.turn ++ codes " cause " ++ decimal r.cause ++ codes " data " ++ hex8 r.edata ++ codes " user " ++ decimal r.user ++ 32 ∷ next_text r.next ++ 10 ∷ []
+row_text r = codes "turn " ++ decimal r.turn ++ codes " cause " ++ decimal r.cause ++ codes " data " ++ hex8 r.edata ++ codes " user " ++ decimal r.user ++ 32
+    ∷ next_text r.next ++ 10 ∷ []
 
 abbrev pub rows_text : List Row → List ℕ
 rows_text [] = []

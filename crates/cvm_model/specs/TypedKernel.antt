@@ -31,7 +31,8 @@ abbrev pub UnitsWantUnits : Type 0
 UnitsWantUnits = (u : CUnit) (m : Map) (n : ℕ) (c : Core) (cause edata user : ℤ) → IsChecked u → ParamsInRange m.params → CoreFits m c →
     FitsSigned w32 cause → FitsSigned w32 edata → FitsSigned w32 user → IsTypedState u c.c0 →
     ((kernel_meaning u m.params).dispatch n c cause edata user).end ≡ NotYet →
-    (used : Cost) × (d : Configuration Machines Changes) × (c0_run.dispatch (setting_of u m.params) n cause edata user c.c0 (machines_of m.params c) ≡ c0_run.NotYet used d)
+    (used : Cost) × (d : Configuration Machines Changes)
+    × (c0_run.dispatch (setting_of u m.params) n cause edata user c.c0 (machines_of m.params c) ≡ c0_run.NotYet used d)
 
 -- where it is done it has answered an int
 abbrev pub UnitsAnswerInts : Type 0
@@ -47,6 +48,7 @@ pub record IsCallOf (n : ℕ) (args : Values) (call : KernelCall) : Type 0 where
 
 -- a law: a row's arguments make a call; and over users of few pages its answer has the row's type
 pub record RowsAreCalled : Type 0 where
-  pub call : (n : ℕ) (row : CPrimitive) (args : Values) → slice_get kernel_primitives n ≡ Some row → AreScalars row.args args → (call : KernelCall) × IsCallOf n args call
+  pub call : (n : ℕ) (row : CPrimitive) (args : Values) → slice_get kernel_primitives n ≡ Some row → AreScalars row.args args
+      → (call : KernelCall) × IsCallOf n args call
   pub answer : (n : ℕ) (row : CPrimitive) (args : Values) (v : Machines) → slice_get kernel_primitives n ≡ Some row → AreScalars row.args args
       → v.most ≤ 1024 → All (UserFits v.most) v.users → length v.console.input ≤ input_room → IsScalar row.answer (kernel_primitive n args v).answer

@@ -1,5 +1,6 @@
 -- SCRIPTS: the calls of the outside that a piece of work makes, in order, where it does what it is asked; and what is left where one of them failed.
-use Rattle.std.specs.Prelude.{◌≡◌, ◌≢◌, ℕ, zero, suc, ◌<◌, min, length, List, [], ◌∷◌, ◌++◌, Bool, true, false, Option, Some, None, IfSome, Result, Ok, Err, slice_set}
+use Rattle.std.specs.Prelude.{◌≡◌, ◌≢◌, ℕ, zero, suc, ◌<◌, min, length, List, [], ◌∷◌, ◌++◌}
+use Rattle.std.specs.Prelude.{Bool, true, false, Option, Some, None, IfSome, Result, Ok, Err, slice_set}
 use Rattle.std.specs.Option.{option_map}
 use Rattle.std.specs.Io.KnownBytes.{append_known}
 use Rattle.cvm_outside.specs.Causes.{Rose}
@@ -76,7 +77,12 @@ CallFailed (Read sector) old new =
     × (sector < old.disk.size)
 CallFailed (Wrote sector words) old new =
     Rose old.disk.faults new.disk.faults
-    × ((torn : List ℕ) × (new ≡ record old { disk = record (disk_called old.disk) { faults = new.disk.faults; sectors = with_sector old.disk.sectors sector torn } }))
+    × ((torn : List ℕ) × (new ≡ record old {
+      disk = record (disk_called old.disk) {
+        faults = new.disk.faults;
+        sectors = with_sector old.disk.sectors sector torn;
+      };
+    }))
     × (sector < old.disk.size)
 CallFailed (Got name) old new =
     ((n : List ℕ) → new.shelf.file n ≡ old.shelf.file n) × Rose old.shelf.faults new.shelf.faults × (new ≡ record old { shelf = new.shelf })

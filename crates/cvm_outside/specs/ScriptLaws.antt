@@ -6,7 +6,8 @@ use Rattle.cvm_outside.specs.Told.{AppendsPart}
 use Rattle.cvm_outside.specs.Numbering.{Tally, called, counted_times}
 use Rattle.cvm_outside.specs.Outside.{Outside, counts, shelf_counts}
 use Rattle.cvm_outside.specs.Causes.{Rose}
-use Rattle.cvm_outside.specs.Script.{Call, Got, Stored, Who, TheDisk, TheShelf, who, CallFailed, Performs, spoken, disk_calls, shelf_calls, sectors_after, faults_of}
+use Rattle.cvm_outside.specs.Script.{Call, Got, Stored, Who, TheDisk, TheShelf, who}
+use Rattle.cvm_outside.specs.Script.{CallFailed, Performs, spoken, disk_calls, shelf_calls, sectors_after, faults_of}
 
 -- two scripts one after another; and one that breaks off before another
 abbrev pub Follow : Type 0

@@ -1,5 +1,6 @@
 // Files in memory.
-ghost use Rattle.std.specs.Prelude.{◌≡◌, ◌≤◌, ◌<◌, ◌≢◌, ◌||◌, ◌↔◌, List, ℕ, true, false, length, is_err, is_some, if◌then◌else◌, vec_len, IfOk, OnOk, OnErr, Some, None, IsErrOf, IsSomeAnd, IfSome, min, not};
+ghost use Rattle.std.specs.Prelude.{◌≡◌, ◌≤◌, ◌<◌, ◌≢◌, ◌||◌, ◌↔◌, List, ℕ, true, false, length, is_err, is_some};
+ghost use Rattle.std.specs.Prelude.{if◌then◌else◌, vec_len, IfOk, OnOk, OnErr, Some, None, IsErrOf, IsSomeAnd, IfSome, min, not};
 ghost use Rattle.std.specs.BTreeMap.{get_by_text};
 ghost use Rattle.cvm_outside.specs.Causes.{ShelfCounts};
 ghost use Rattle.cvm_outside.specs.Told.{TOO_LONG};

@@ -1,7 +1,8 @@
 // Scripts of calls: the calls of the outside that a piece of work makes, in order, where it does what it is asked; and what is left where one failed.
 //
 // Each law is the contract of a function that does nothing.
-ghost use Rattle.cvm_outside.specs.ScriptLaws.{ScriptsFollow, ScriptsTell, ScriptsCount, ScriptsCountFiles, ScriptsBlame, ScriptsStore, ScriptsBreak, ScriptsGive};
+ghost use Rattle.cvm_outside.specs.ScriptLaws.{ScriptsFollow, ScriptsTell, ScriptsCount, ScriptsCountFiles};
+ghost use Rattle.cvm_outside.specs.ScriptLaws.{ScriptsBlame, ScriptsStore, ScriptsBreak, ScriptsGive};
 
 /// A law: two pieces of work one after another perform one script after the other, and where the first breaks off no more is done.
 pub fn scripts_follow()

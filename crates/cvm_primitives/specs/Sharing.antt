@@ -27,7 +27,8 @@ LastShared p x y n c m = (SharesFrame p (last_page x n) (last_page y n) c.memory
 
 -- How a copy of n words from x to y, begun in c and d, comes to its end, c' and d': with the memory and the disk as they were the loop over the pieces,
 -- which stands at `place`, is entered; it comes to its head with all words copied but those of the last page; and from there it ends.
-pub record LastPieceShares (w : World) (p : TableLayout) (page : List Inst) (v : Pages) (x y n steps : ℕ) (c : Contents) (d : Behind) (c' : Contents) (d' : Behind) : Type 0 where
+pub record LastPieceShares (w : World) (p : TableLayout) (page : List Inst) (v : Pages) (x y n steps : ℕ) (c : Contents) (d : Behind) (c' : Contents)
+    (d' : Behind) : Type 0 where
   pub place : ℕ
   pub stands : CodeAt w place (pieces_code p page)
   pub entry : Contents

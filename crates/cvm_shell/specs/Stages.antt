@@ -50,7 +50,8 @@ use Rattle.run_scripts.specs.declared.exit_status.Status.TheVariants.{Shelf}
 use Rattle.std.specs.Global.{Vec}
 use Rattle.run_scripts.specs.declared.session.Session.{Session}
 use Rattle.run_scripts.specs.Command.{BootCommand, Save, Command, boot, save_session}
-use Rattle.run_scripts.specs.Plan.{Plan, puts, boots, saves, most_bytes, taken_plan, BootPlan, CommandPlan, FilesAreTold, IsPlan, user_words_from, prints, boot_of_image}
+use Rattle.run_scripts.specs.Plan.{Plan, puts, boots, saves, most_bytes, taken_plan, BootPlan}
+use Rattle.run_scripts.specs.Plan.{CommandPlan, FilesAreTold, IsPlan, user_words_from, prints, boot_of_image}
 use Rattle.cvm_shell.specs.Views.{IfPlan}
 use Rattle.run_scripts.specs.Boot.{booted, sectors_needed}
 use Rattle.run_scripts.specs.Ends.{IsByte}

@@ -19,7 +19,8 @@ use Rattle.cvm_shell.specs.declared.check.Check.{Check}
 use Rattle.cvm_shell.specs.declared.command.Command.{Command}
 use Rattle.cvm_shell.specs.declared.command.Command.TheVariants as command_code
 use Rattle.cvm_shell.specs.declared.refusal.Refusal.{Refusal}
-use Rattle.cvm_shell.specs.declared.refusal.Refusal.TheVariants.{BadText, BadSource, BadProgram, BadObject, BadFile, Unlinked, Unaccepted, BadSchedule, BadSave, SmallDisk, NoSuchUser, TooLong}
+use Rattle.cvm_shell.specs.declared.refusal.Refusal.TheVariants.{BadText, BadSource, BadProgram, BadObject, BadFile, Unlinked}
+use Rattle.cvm_shell.specs.declared.refusal.Refusal.TheVariants.{Unaccepted, BadSchedule, BadSave, SmallDisk, NoSuchUser, TooLong}
 use Rattle.cvm_shell.specs.declared.boot.Stop.{Stop}
 use Rattle.cvm_shell.specs.declared.boot.Stop.TheVariants.{Refused, Shelf, Memory}
 

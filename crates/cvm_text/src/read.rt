@@ -3,7 +3,8 @@
 ghost use Rattle.std.specs.Prelude.{◌≡◌, ◌≤◌, ◌<◌, ◌^◌, ◌+◌, ◌-◌, ◌*◌, ◌++◌, ℕ, List, true, length, take, drop, IfSome, IfNone, Some, None, decimal};
 ghost use Rattle.std.specs.List.{list_all, prefix_len};
 ghost use Rattle.std.specs.Char.{is_ascii_digit};
-ghost use Rattle.cvm_text.specs.Number.{digits_at as digits_at_of, is_spelling as is_spelling_of, spelled_number_at, value_of as value_of_of, below_limit, IsSpelledAt};
+ghost use Rattle.cvm_text.specs.Number.{digits_at as digits_at_of, is_spelling as is_spelling_of, spelled_number_at};
+ghost use Rattle.cvm_text.specs.Number.{value_of as value_of_of, below_limit, IsSpelledAt};
 
 /// Reads the number that stands in `bytes` at the position `at`: `0`, or a digit
 /// 1 to 9 and all digits after it.

@@ -52,7 +52,8 @@ accept_answer layer i front = do
 
 -- A result, seen by view, is what is due of the image that bytes were read as, or it is their fault. What is due of an image goes by what
 -- the front comes to on its source.
-abbrev pub AnswersBy : {X Y : Type 0} → (Image → Result CUnit SourceFault → Result Y AcceptFault) → (X → Y) → Result Image ImageFault → Result X AcceptFault → Type 0
+abbrev pub AnswersBy : {X Y : Type 0} → (Image → Result CUnit SourceFault → Result Y AcceptFault) → (X → Y) → Result Image ImageFault
+    → Result X AcceptFault → Type 0
 AnswersBy due view (Ok i) result = (front : Result CUnit SourceFault) × FrontGives i.source front × GivesUnless Memory view result (due i front)
 AnswersBy due view (Err f) result = result ≡ Err (accept_file_fault f)
 

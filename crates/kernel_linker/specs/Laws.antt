@@ -14,7 +14,8 @@ use Rattle.kernel_linker.specs.Accept.{accept_answer}
 
 -- An image that is answered has the object's source, and over the same layer it is accepted as the system of that source's unit, the parameters, the
 -- linked words and the users.
-pub record IsAccepted (layer : Map → List ℕ → List ℕ) (o : Object) (p : Params) (users : List (List ℕ)) (front : Result CUnit SourceFault) (i : Image) : Type 0 where
+pub record IsAccepted (layer : Map → List ℕ → List ℕ) (o : Object) (p : Params) (users : List (List ℕ)) (front : Result CUnit SourceFault)
+    (i : Image) : Type 0 where
   pub unit : CUnit
   pub read : front ≡ Ok unit
   pub source : i.source ≡ o.source

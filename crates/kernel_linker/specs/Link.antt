@@ -53,4 +53,5 @@ link_answer layer o p users front = do
 
 -- a result is the answer that is due, by what the front comes to on the object's source, or want of memory
 abbrev pub LinksBy : (layer : Map → List ℕ → List ℕ) → Object → Params → (users : List (List ℕ)) → Result Image LinkFault → Type 0
-LinksBy layer o p users result = (front : Result CUnit SourceFault) × FrontGives o.source front × GivesUnless Memory (λ i. i) result (link_answer layer o p users front)
+LinksBy layer o p users result =
+    (front : Result CUnit SourceFault) × FrontGives o.source front × GivesUnless Memory (λ i. i) result (link_answer layer o p users front)

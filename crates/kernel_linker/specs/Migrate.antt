@@ -27,7 +27,8 @@ pub record IsAcceptedAnew (layer : Map → List ℕ → List ℕ) (old : Image) 
   pub unit : CUnit
   pub read : front ≡ Ok unit
   pub source : new.source ≡ old.source
-  pub accepted : accept_answer layer new front ≡ Ok (record { params = old.params; unit = unit; words = linked layer unit old.params (sizes_of old.users); users = old.users })
+  pub accepted : accept_answer layer new front
+      ≡ Ok (record { params = old.params; unit = unit; words = linked layer unit old.params (sizes_of old.users); users = old.users })
 
 -- a law: so is each that is migrated
 abbrev pub MigratedAreAccepted : Type 0

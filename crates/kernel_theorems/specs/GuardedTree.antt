@@ -13,7 +13,9 @@ abbrev pub bump_test1 : CExpr
 bump_test1 = binary z And (binary z Ge (local (codes "at") 0) (number 0)) (binary z Lt (local (codes "at") 0) (number 4))
 
 abbrev pub bump_yes1 : CStmts
-bump_yes1 = block (assign z (index z (global (codes "counts") 0) (local (codes "at") 0)) (binary z Add (index z (global (codes "counts") 0) (local (codes "at") 0)) (number 1)) ∷ assign z (local (codes "seen") 1) (index z (global (codes "counts") 0) (local (codes "at") 0)) ∷ [])
+bump_yes1 = block (assign z (index z (global (codes "counts") 0) (local (codes "at") 0))
+    (binary z Add (index z (global (codes "counts") 0) (local (codes "at") 0)) (number 1))
+    ∷ assign z (local (codes "seen") 1) (index z (global (codes "counts") 0) (local (codes "at") 0)) ∷ [])
 
 abbrev pub bump_body : CStmts
 bump_body = next (choice z bump_test1 bump_yes1 done) done
@@ -49,13 +51,15 @@ abbrev pub dispatch_yes4 : CStmts
 dispatch_yes4 = block (assign z (deref z (global (codes "last") 1)) (local (codes "seen") 4) ∷ [])
 
 abbrev pub dispatch_yes3 : CStmts
-dispatch_yes3 = next (call z (local (codes "seen") 4) z (name (codes "bump") Function 0) ((local (codes "data") 1) ∷ [])) (next (choice z dispatch_test4 dispatch_yes4 done) done)
+dispatch_yes3 = next (call z (local (codes "seen") 4) z (name (codes "bump") Function 0) ((local (codes "data") 1) ∷ []))
+    (next (choice z dispatch_test4 dispatch_yes4 done) done)
 
 abbrev pub dispatch_test5 : CExpr
 dispatch_test5 = binary z Ne (index z (global (codes "counts") 0) (number 0)) (number 0)
 
 abbrev pub dispatch_yes5 : CStmts
-dispatch_yes5 = block (assign z (global (codes "rate") 2) (binary z Div (index z (global (codes "counts") 0) (number 1)) (index z (global (codes "counts") 0) (number 0))) ∷ [])
+dispatch_yes5 = block (assign z (global (codes "rate") 2)
+    (binary z Div (index z (global (codes "counts") 0) (number 1)) (index z (global (codes "counts") 0) (number 0))) ∷ [])
 
 abbrev pub dispatch_rest3 : CStmts
 dispatch_rest3 = next (choice z dispatch_test5 dispatch_yes5 done) done
@@ -80,6 +84,7 @@ abbrev pub guarded : CUnit
 guarded = record {
   length = 0;
   structs = [];
-  globals = (decl (tree.array tree.int 4) (codes "counts") Global 0 ∷ decl (tree.pointer tree.int) (codes "last") Global 1 ∷ decl tree.int (codes "rate") Global 2 ∷ []);
+  globals = (decl (tree.array tree.int 4) (codes "counts") Global 0 ∷ decl (tree.pointer tree.int) (codes "last") Global 1
+      ∷ decl tree.int (codes "rate") Global 2 ∷ []);
   functions = bump_code ∷ dispatch_code ∷ [];
 }

@@ -26,7 +26,8 @@ abbrev pub dispatch_test4 : CExpr
 dispatch_test4 = binary z Lt (local (codes "i") 4) (local (codes "user") 2)
 
 abbrev pub dispatch_turn4 : CStmts
-dispatch_turn4 = block (call z (local (codes "ok") 5) z (name (codes "con_put") Primitive 7) ((local (codes "i") 4) ∷ []) ∷ assign z (local (codes "i") 4) (binary z Add (local (codes "i") 4) (number 1)) ∷ [])
+dispatch_turn4 = block (call z (local (codes "ok") 5) z (name (codes "con_put") Primitive 7) ((local (codes "i") 4) ∷ [])
+    ∷ assign z (local (codes "i") 4) (binary z Add (local (codes "i") 4) (number 1)) ∷ [])
 
 abbrev pub dispatch_rest3 : CStmts
 dispatch_rest3 = next (loop z dispatch_test4 dispatch_turn4) done

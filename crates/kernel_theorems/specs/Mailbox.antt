@@ -1,7 +1,8 @@
 -- The kernel of examples/mailbox, which carries messages: user 1 puts one by a system call, with its value in register 4; user 2 gets one by a system
 -- call, in register 3. Each call is answered in the caller's register 2: 1 where the message was taken or is there, 0 where it is to be asked again; the
 -- other user is next then. Any other trap ends the run. What is got is what was put, in order, each once and unchanged, by what the users find.
-use Rattle.std.specs.Prelude.{◌≡◌, ◌≤◌, ◌&&◌, ℕ, ℤ, pos, Bool, nat_lt, true, false, if◌then◌else◌, Option, Some, None, List, [], ◌∷◌, ◌++◌, length, codes, FitsSigned}
+use Rattle.std.specs.Prelude.{◌≡◌, ◌≤◌, ◌&&◌, ℕ, ℤ, pos, Bool, nat_lt, true, false, if◌then◌else◌}
+use Rattle.std.specs.Prelude.{Option, Some, None, List, [], ◌∷◌, ◌++◌, length, codes, FitsSigned}
 use Rattle.std.specs.Int.{w32}
 use Rattle.std.specs.Ordering.{int_eq}
 use Rattle.c0_meaning.specs.Value.{Value, int, group, empty, part}

@@ -32,7 +32,8 @@ abbrev pub dispatch_test6 : CExpr
 dispatch_test6 = binary z Eq (global (codes "full") 0) (number 0)
 
 abbrev pub dispatch_yes6 : CStmts
-dispatch_yes6 = block (call z (global (codes "message") 1) z (name (codes "vm_get") Primitive 0) ((number 1) ∷ (number 4) ∷ []) ∷ assign z (global (codes "full") 0) (number 1) ∷ assign z (local (codes "answer") 4) (number 1) ∷ [])
+dispatch_yes6 = block (call z (global (codes "message") 1) z (name (codes "vm_get") Primitive 0) ((number 1) ∷ (number 4) ∷ [])
+    ∷ assign z (global (codes "full") 0) (number 1) ∷ assign z (local (codes "answer") 4) (number 1) ∷ [])
 
 abbrev pub dispatch_yes5 : CStmts
 dispatch_yes5 = next (choice z dispatch_test6 dispatch_yes6 done) done
@@ -41,7 +42,8 @@ abbrev pub dispatch_test7 : CExpr
 dispatch_test7 = binary z Eq (global (codes "full") 0) (number 1)
 
 abbrev pub dispatch_yes7 : CStmts
-dispatch_yes7 = block (call z (local (codes "ok") 5) z (name (codes "vm_set") Primitive 1) ((number 2) ∷ (number 3) ∷ (global (codes "message") 1) ∷ []) ∷ assign z (global (codes "full") 0) (number 0) ∷ assign z (local (codes "answer") 4) (number 1) ∷ [])
+dispatch_yes7 = block (call z (local (codes "ok") 5) z (name (codes "vm_set") Primitive 1) ((number 2) ∷ (number 3) ∷ (global (codes "message") 1) ∷ [])
+    ∷ assign z (global (codes "full") 0) (number 0) ∷ assign z (local (codes "answer") 4) (number 1) ∷ [])
 
 abbrev pub dispatch_no5 : CStmts
 dispatch_no5 = next (choice z dispatch_test7 dispatch_yes7 done) done
@@ -53,7 +55,8 @@ abbrev pub dispatch_yes8 : CStmts
 dispatch_yes8 = block (assign z (local (codes "next") 3) (binary z Add (binary z Rem (local (codes "user") 2) (number 2)) (number 1)) ∷ [])
 
 abbrev pub dispatch_rest5 : CStmts
-dispatch_rest5 = next (call z (local (codes "ok") 5) z (name (codes "vm_set") Primitive 1) ((local (codes "user") 2) ∷ (number 2) ∷ (local (codes "answer") 4) ∷ [])) (next (assign z (local (codes "next") 3) (local (codes "user") 2)) (next (choice z dispatch_test8 dispatch_yes8 done) done))
+dispatch_rest5 = next (call z (local (codes "ok") 5) z (name (codes "vm_set") Primitive 1) ((local (codes "user") 2) ∷ (number 2) ∷ (local (codes "answer") 4)
+    ∷ [])) (next (assign z (local (codes "next") 3) (local (codes "user") 2)) (next (choice z dispatch_test8 dispatch_yes8 done) done))
 
 abbrev pub dispatch_yes4 : CStmts
 dispatch_yes4 = next (choice z dispatch_test5 dispatch_yes5 dispatch_no5) dispatch_rest5

@@ -29,7 +29,8 @@ abbrev pub dispatch_yes5 : CStmts
 dispatch_yes5 = block (assign z (global (codes "owner") 0) (local (codes "user") 2) ∷ assign z (local (codes "got") 4) (number 1) ∷ [])
 
 abbrev pub dispatch_rest5 : CStmts
-dispatch_rest5 = block (call z (local (codes "ok") 5) z (name (codes "vm_set") Primitive 1) ((local (codes "user") 2) ∷ (number 2) ∷ (local (codes "got") 4) ∷ []) ∷ [])
+dispatch_rest5 = block (call z (local (codes "ok") 5) z (name (codes "vm_set") Primitive 1) ((local (codes "user") 2) ∷ (number 2)
+    ∷ (local (codes "got") 4) ∷ []) ∷ [])
 
 abbrev pub dispatch_yes4 : CStmts
 dispatch_yes4 = next (choice z dispatch_test5 dispatch_yes5 done) dispatch_rest5

@@ -1,5 +1,5 @@
--- Texts of kernels and user programs, and the trees that they mean. To be used to carry what was proved of a tree to every unit of its text: prove `IsTextOf` by computation,
--- and `texts_mean_trees` gives `Means`.
+-- Texts of kernels and user programs, and the trees that they mean. To be used to carry what was proved of a tree to every unit of its text: prove `IsTextOf`
+-- by computation, and `texts_mean_trees` gives `Means`.
 use Rattle.std.specs.Prelude.{◌≡◌, ◌≤◌, ℕ, ℤ, true, List, [], length}
 use Rattle.layer_map.specs.declared.params.Params.{Params}
 use Rattle.c0_tree.specs.declared.primitive.Program.{Program}

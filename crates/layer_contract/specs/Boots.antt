@@ -10,7 +10,12 @@ use Rattle.layer_contract.specs.Follows.{Follows}
 
 -- the kernel is what its unit means
 abbrev pub boot_of : Booted → Boot
-boot_of b = record { params = b.params; meaning = kernel_meaning (unit_view b.unit) b.params; words = b.words.items; users = map (λ words. words.items) b.users.items }
+boot_of b = record {
+  params = b.params;
+  meaning = kernel_meaning (unit_view b.unit) b.params;
+  words = b.words.items;
+  users = map (λ words. words.items) b.users.items;
+}
 
 -- FOLLOWS, of a layer with these words, sizes of users and map, and a boot
 abbrev pub BootFollows : (image sizes : List ℕ) → Map → Booted → Type 0

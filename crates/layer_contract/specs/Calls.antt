@@ -68,7 +68,8 @@ pub record KernelCalled (x : Environment) (longest : ℕ) (y : Site) (Typed : C0
 -- The calls that a dispatch has ended are those that the machine ends, in order; and the machine enters no more of them in so many steps
 -- than the dispatch ends within some number of units.
 pub record CallsFollow (y : Site) (Typed : C0State → Type 0) (e : KernelMeaning) : Type 0 where
-  pub each : (x : Environment) (longest n m : ℕ) (s : State) (c : Core) (cause edata user : ℤ) (changes : Changes) → KernelCalled x longest y Typed c cause edata user s →
+  pub each : (x : Environment) (longest n m : ℕ) (s : State) (c : Core) (cause edata user : ℤ) (changes : Changes)
+      → KernelCalled x longest y Typed c cause edata user s →
       slice_get (e.dispatch n c cause edata user).calls m ≡ Some changes → EndsCall x y longest s m changes
   pub no_more : (x : Environment) (longest t : ℕ) (s : State) (c : Core) (cause edata user : ℤ) → KernelCalled x longest y Typed c cause edata user s →
       ((j : ℕ) → j ≤ t → Inside (run x s j)) → (n : ℕ) × (entered_before x s t ≤ length (e.dispatch n c cause edata user).calls)

@@ -227,7 +227,8 @@ pub record ComesBack (x : Environment) (y : Site) (longest : ℕ) (c : Core) (ca
 
 -- PRIMITIVE: from its entry it comes back
 abbrev pub PrimitivesAnswer : Site → Type 0
-PrimitivesAnswer y = (x : Environment) (longest : ℕ) (s : State) (c : Core) (call : KernelCall) → BusyWithin x longest → PrimitiveCalled x y c call s → ComesBack x y longest c call s
+PrimitivesAnswer y = (x : Environment) (longest : ℕ) (s : State) (c : Core) (call : KernelCall) → BusyWithin x longest → PrimitiveCalled x y c call s
+    → ComesBack x y longest c call s
 
 -- whether the instruction at pc is a store
 abbrev pub is_store : Option Inst → Bool
@@ -240,7 +241,8 @@ page_at m c address = (c.current - 1) * m.params.pages + address / 4096
 
 -- the page that a handled fault asked for is resident, and for a store private
 abbrev pub PageBrought : Site → Core → State → State → Coming → Type 0
-PageBrought y c s t (Interrupt before DataFault edata epc) = IsAccessible (paged_of y.map t) (page_at y.map c edata) (is_store (decoding (read_at s (located s false s.cpu.pc))))
+PageBrought y c s t (Interrupt before DataFault edata epc) =
+    IsAccessible (paged_of y.map t) (page_at y.map c edata) (is_store (decoding (read_at s (located s false s.cpu.pc))))
 PageBrought y c s t (Interrupt before FetchFault edata epc) = IsAccessible (paged_of y.map t) (page_at y.map c edata) false
 PageBrought y c s t other = Unit {0}
 
@@ -282,4 +284,8 @@ ResetStands = (x : Environment) (y : Site) (s : State) (c : Core) (sizes : List 
 -- the order of their numbers: sr, esr, eca, epc, edata, pto, ptl, mode, emode.
 abbrev pub for_user : Map → Core → ℕ → State → State
 for_user m c u s =
-    record s { cpu = (user_of c.users u).cpu; special = 1 ∷ 0 ∷ 0 ∷ 0 ∷ 0 ∷ 4 * table_of m u ∷ pages_of (user_of c.users u) ∷ 1 ∷ 0 ∷ []; memory = slice_set s.memory current_at u }
+    record s {
+      cpu = (user_of c.users u).cpu;
+      special = 1 ∷ 0 ∷ 0 ∷ 0 ∷ 0 ∷ 4 * table_of m u ∷ pages_of (user_of c.users u) ∷ 1 ∷ 0 ∷ [];
+      memory = slice_set s.memory current_at u;
+    }

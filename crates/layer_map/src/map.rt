@@ -2,7 +2,8 @@
 
 ghost use Rattle.std.specs.Prelude.{◌≡◌, ◌+◌, ◌*◌, ◌≤◌};
 ghost use Rattle.layer_map.specs.Map.{Map as Parts, ParamsInRange, MapInRange, PartsInOrder, PartsBeginPages, MemoryIsWhole, BlocksInOrder, TablesInOrder};
-ghost use Rattle.layer_map.specs.Map.{next_page as next_page_of, code_at, globals_at, heap_at, stack_at, tables_at, frame_table_at, zero_frame_at, user_frames_at, memory_frames as frames_of_memory};
+ghost use Rattle.layer_map.specs.Map.{next_page as next_page_of, code_at, globals_at, heap_at, stack_at};
+ghost use Rattle.layer_map.specs.Map.{tables_at, frame_table_at, zero_frame_at, user_frames_at, memory_frames as frames_of_memory};
 
 use crate::params::Params;
 use crate::places::LAYER_WORDS;

@@ -1,7 +1,8 @@
 // The places of the layer's part.
 
 ghost use Rattle.std.specs.Prelude.{◌≡◌, ◌*◌, ◌≤◌};
-ghost use Rattle.layer_map.specs.Map.{block_at, current_at, hand_at, heap_used_at, heap_words_at, heap_first_at, stack_first_at, stack_limit_at, variables_at, variables_end, layer_words};
+ghost use Rattle.layer_map.specs.Map.{block_at, current_at, hand_at, heap_used_at, heap_words_at, heap_first_at};
+ghost use Rattle.layer_map.specs.Map.{stack_first_at, stack_limit_at, variables_at, variables_end, layer_words};
 
 /// The words of the layer's part, which begins memory.
 pub const LAYER_WORDS: u32 = 16384;

@@ -35,4 +35,5 @@ pub record CopyPassed (p : TableLayout) (v : Pages) (x y n : ℕ) (c : Contents)
 abbrev pub CopyPasses : World → Type 0
 CopyPasses w = (p : TableLayout) (b users per : ℕ) (size : ℕ → ℕ) (v : Pages) (c : Contents) (d : Behind) →
     EnteredOnPages w p b users per size v c d → GoodCopy users size c → EndsWhole (first_word per c) (second_word per c) (c.regs LENGTH) →
-    Through w (vm_copy_code p users per (handle_page_code p)) (copy_steps p b per c) c d (CopyPassed p v (first_word per c) (second_word per c) (c.regs LENGTH) c d)
+    Through w (vm_copy_code p users per (handle_page_code p)) (copy_steps p b per c) c d
+    (CopyPassed p v (first_word per c) (second_word per c) (c.regs LENGTH) c d)

@@ -1,8 +1,9 @@
--- A whole system with a mailbox: a kernel with round robin on lines, a user that sends messages and one that receives and prints them. User 1 sends by a call with
--- a number from 1 on. It is answered as soon as the mailbox, which holds one message, has taken it; while the mailbox is full it waits. User 2 asks for a
+-- A whole system with a mailbox: a kernel with round robin on lines, a user that sends messages and one that receives and prints them. User 1 sends by a call
+-- with a number from 1 on. It is answered as soon as the mailbox, which holds one message, has taken it; while the mailbox is full it waits. User 2 asks for a
 -- message by a call with 0, and is answered with the oldest one; while there is none it waits. By a call with another number it has that printed on the
 -- console. Whoever waits or has ended is not run; when both have ended the system halts.
-use Rattle.std.specs.Prelude.{◌≡◌, ◌⊎◌, ◌≤◌, ◌<◌, ◌^◌, ℕ, suc, ◌+◌, ◌&&◌, ◌==◌, if◌then◌else◌, ℤ, pos, List, [], ◌∷◌, ◌++◌, length, map, slice_index, Option, Some, None}
+use Rattle.std.specs.Prelude.{◌≡◌, ◌⊎◌, ◌≤◌, ◌<◌, ◌^◌, ℕ, suc, ◌+◌, ◌&&◌, ◌==◌, if◌then◌else◌, ℤ}
+use Rattle.std.specs.Prelude.{pos, List, [], ◌∷◌, ◌++◌, length, map, slice_index, Option, Some, None}
 use Rattle.mips_table.specs.Arith.{signed}
 use Rattle.mips_table.specs.Flat.{Flat}
 use Rattle.mips_table.specs.Machine.{LOG_ROOM}
@@ -146,9 +147,9 @@ sent (d ∷ past) = sent_by d ++ sent past
 abbrev pub message_ints : List Message → List ℤ
 message_ints ms = map (λ (m : Message). pos m.number) ms
 
--- WHAT IS SO after k turns, whatever lines came. The messages are those that were printed, then that in the receiver's hand, that in the mailbox, and those that
--- are left; they are those that were sent, and then those that were not yet. Each user follows its calls; who waits, waits for the mailbox; and each turn was
--- the first, a step of a user, or lines that were taken.
+-- WHAT IS SO after k turns, whatever lines came. The messages are those that were printed, then that in the receiver's hand, that in the mailbox, and those
+-- that are left; they are those that were sent, and then those that were not yet. Each user follows its calls; who waits, waits for the mailbox; and each turn
+-- was the first, a step of a user, or lines that were taken.
 pub record StandsSo (ms : List Message) (one two : ℕ) (f g : Flat) (k : ℕ) (past : List Dispatch) (at : Core) (s : MailState) : Type 0 where
   pub sender : FollowsLegs f (sends ms) one s.f (sends s.rest) s.sender
   pub receiver : FollowsLegs g (receives ms) two s.g (calls_left s.hand (held s.box s.rest)) s.receiver
@@ -183,7 +184,8 @@ Mailing y ms one two f g k past at = IsMailing ms one two f g k past at × UsePa
 abbrev pub MailIsPrinted : Type 0
 MailIsPrinted = (y : System) (ms : List Message) (one two : ℕ) (r : Mails y ms one two) (lines : ℕ → ℕ) → HasEight lines → (k : ℕ)
     → ((c : Cvm) × (cvm y lines 200 k ≡ Some c))
-    × ((c : Cvm) → IsCvm y lines (suc k) c → SystemHolds (HasUsers y) (Mailing y ms one two (first_flat r.sender) (first_flat r.receiver)) (suc k) (dispatches_of y lines 200 (suc k)) c)
+    × ((c : Cvm) → IsCvm y lines (suc k) c
+    → SystemHolds (HasUsers y) (Mailing y ms one two (first_flat r.sender) (first_flat r.receiver)) (suc k) (dispatches_of y lines 200 (suc k)) c)
 
 -- A LAW: it is an invariant of such a system, in the rule for whole systems
 abbrev pub MailIsKept : Type 0
@@ -213,11 +215,13 @@ dispatches_for ms = 3 + length (sends ms) + length (receives ms)
 -- A LAW, of each such state: what was sent is carried; the system is running below so many turns alone, and for each dispatch that took lines one more; so
 -- many dispatches there are at most; no dispatch has faulted; and where it has halted it is finished
 pub record MailEnds : Type 0 where
-  pub carried : (ms : List Message) (one two : ℕ) (f g : Flat) (k : ℕ) (past : List Dispatch) (at : Core) → IsMailing ms one two f g k past at → IsCarried past at
+  pub carried : (ms : List Message) (one two : ℕ) (f g : Flat) (k : ℕ) (past : List Dispatch) (at : Core)
+      → IsMailing ms one two f g k past at → IsCarried past at
   pub below : (ms : List Message) (one two : ℕ) (f g : Flat) (k : ℕ) (past : List Dispatch) (at : Core) → IsMailing ms one two f g k past at
       → status_after past ≡ Running → k < turns_for ms one two + lines_taken past
   pub few : (ms : List Message) (one two : ℕ) (f g : Flat) (k : ℕ) (past : List Dispatch) (at : Core) → IsMailing ms one two f g k past at
       → length past ≤ dispatches_for ms + lines_taken past
-  pub safe : (ms : List Message) (one two : ℕ) (f g : Flat) (k : ℕ) (past : List Dispatch) (at : Core) → IsMailing ms one two f g k past at → IsSafe (status_after past)
+  pub safe : (ms : List Message) (one two : ℕ) (f g : Flat) (k : ℕ) (past : List Dispatch) (at : Core) → IsMailing ms one two f g k past at
+      → IsSafe (status_after past)
   pub finished : (ms : List Message) (one two : ℕ) (f g : Flat) (k : ℕ) (past : List Dispatch) (at : Core) → IsMailing ms one two f g k past at
       → status_after past ≡ Halted → IsFinished ms one two f g at

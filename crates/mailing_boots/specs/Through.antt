@@ -52,4 +52,5 @@ pub record IsCountedThrough (f : Flat) (answers : List ℕ) (n : ℕ) : Type 0 w
 
 -- A LAW: where it is known so, a machine that makes its calls in turn and is answered so makes just these untrapped steps
 abbrev pub CountsTellThrough : Type 0
-CountsTellThrough = (f : Flat) (legs : List Leg) (last n : ℕ) → CallsInTurn f legs last → IsCountedThrough f (map (λ (leg : Leg). leg.answer) legs) n → untrapped_in legs last ≡ n
+CountsTellThrough = (f : Flat) (legs : List Leg) (last n : ℕ) → CallsInTurn f legs last → IsCountedThrough f (map (λ (leg : Leg). leg.answer) legs) n
+    → untrapped_in legs last ≡ n

@@ -1,7 +1,8 @@
 -- Which registers straight code leaves as they are: those that none of its instructions writes.
 use Rattle.std.specs.Prelude.{◌≡◌, ℕ, Bool, true, false, ◌&&◌, List, [], ◌∷◌}
 use Rattle.mips_table.specs.declared.inst.Inst.{Inst}
-use Rattle.mips_table.specs.declared.inst.Inst.TheVariants.{Sll, Srl, Sra, Sllv, Srlv, Srav, Addu, Subu, And, Or, Xor, Nor, Slt, Sltu, Addiu, Slti, Sltiu, Andi, Ori, Xori, Lui, Mfc0, Lw, Mfhi, Mflo}
+use Rattle.mips_table.specs.declared.inst.Inst.TheVariants.{Sll, Srl, Sra, Sllv, Srlv, Srav, Addu, Subu, And, Or, Xor, Nor, Slt}
+use Rattle.mips_table.specs.declared.inst.Inst.TheVariants.{Sltu, Addiu, Slti, Sltiu, Andi, Ori, Xori, Lui, Mfc0, Lw, Mfhi, Mflo}
 use Rattle.mips_table.specs.Code.{Contents}
 use Rattle.masm.specs.Says.{Says, straight, sayings}
 
@@ -41,4 +42,5 @@ all_into ok (i ∷ is) = ok (into i) && all_into ok is
 
 -- a register that is none of these stays
 abbrev pub RegistersStay : Type 0
-RegistersStay = (ok : ℕ → Bool) (x : ℕ) → ok x ≡ false → (is : List Inst) (hs : List Says) (n : ℕ) (c : Contents) → straight is ≡ true → all_into ok is ≡ true → (sayings n is hs c).regs x ≡ c.regs x
+RegistersStay = (ok : ℕ → Bool) (x : ℕ) → ok x ≡ false → (is : List Inst) (hs : List Says) (n : ℕ) (c : Contents) → straight is ≡ true → all_into ok is ≡ true
+    → (sayings n is hs c).regs x ≡ c.regs x

@@ -43,7 +43,8 @@ pub record Waited (m : ℕ → ℕ) (c c' : Contents) : Type 0 where
 
 -- the command under way is done within the steps of the wait
 abbrev pub WaitRuns : World → Type 0
-WaitRuns w = w.system ≡ true → (c : Contents) (d : Behind) → From w wait_code (wait_steps d.pending) c d (λ c' d'. Waited (words_after d.pending c.memory d) c c' × (d' ≡ behind_after d.pending c.memory d))
+WaitRuns w = w.system ≡ true → (c : Contents) (d : Behind)
+    → From w wait_code (wait_steps d.pending) c d (λ c' d'. Waited (words_after d.pending c.memory d) c c' × (d' ≡ behind_after d.pending c.memory d))
 
 -- A command v may be given by this instruction, wherever it stands: it stores v to the command port, ports may be used, no command is under
 -- way, and the sector may be used.
@@ -57,5 +58,9 @@ pub record MayCommand (w : World) (i : Inst) (v : ℕ) (c : Contents) (d : Behin
 -- A command and the wait for it take the busy time of the command's number and five steps more: after a READ_SECTOR the
 -- buffer holds the sector, and after a WRITE_SECTOR the sector holds the buffer.
 pub record TransfersRun (w : World) : Type 0 where
-  pub read : (i : Inst) (c : Contents) (d : Behind) → MayCommand w i READ_SECTOR c d → From w (i ∷ wait_code) (w.busy d.commands + 5) c d (λ c' d'. Waited (filled c.memory (d.sectors (c.memory SECTOR))) c c' × (d' ≡ record d { pending = Idle; commands = d.commands + 1 }))
-  pub write : (i : Inst) (c : Contents) (d : Behind) → MayCommand w i WRITE_SECTOR c d → From w (i ∷ wait_code) (w.busy d.commands + 5) c d (λ c' d'. Waited c.memory c c' × (d' ≡ record d { pending = Idle; commands = d.commands + 1; sectors = λ k. if k == c.memory SECTOR then buffer_of c.memory else d.sectors k }))
+  pub read : (i : Inst) (c : Contents) (d : Behind) → MayCommand w i READ_SECTOR c d
+      → From w (i ∷ wait_code) (w.busy d.commands + 5) c d (λ c' d'. Waited (filled c.memory (d.sectors (c.memory SECTOR))) c c'
+      × (d' ≡ record d { pending = Idle; commands = d.commands + 1 }))
+  pub write : (i : Inst) (c : Contents) (d : Behind) → MayCommand w i WRITE_SECTOR c d
+      → From w (i ∷ wait_code) (w.busy d.commands + 5) c d (λ c' d'. Waited c.memory c c'
+      × (d' ≡ record d { pending = Idle; commands = d.commands + 1; sectors = λ k. if k == c.memory SECTOR then buffer_of c.memory else d.sectors k }))

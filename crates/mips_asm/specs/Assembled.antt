@@ -1,12 +1,14 @@
 -- The answer for a text: its words, or its first fault.
-use Rattle.std.specs.Prelude.{ℕ, ℤ, pos, ◌+◌, ◌%◌, ◌^◌, ◌||◌, ◌+ℤ◌, neg_ℤ, Bool, false, List, [], ◌∷◌, ◌++◌, length, take, replicate, Option, Some, None, Result, Ok, Err, if◌then◌else◌, bytes_eq, nat_lt, flat_map}
+use Rattle.std.specs.Prelude.{ℕ, ℤ, pos, ◌+◌, ◌%◌, ◌^◌, ◌||◌, ◌+ℤ◌, neg_ℤ, Bool, false, List, [], ◌∷◌}
+use Rattle.std.specs.Prelude.{◌++◌, length, take, replicate, Option, Some, None, Result, Ok, Err, if◌then◌else◌, bytes_eq, nat_lt, flat_map}
 use Rattle.std.specs.Option.{option_or}
 use Rattle.std.specs.List.{list_any, prefix_len, sum_by}
 use Rattle.mips_asm.specs.declared.fault.AsmFault.{AsmFault}
 use Rattle.mips_asm.specs.declared.fault.AsmFault.TheVariants.{BadByte, UnknownMnemonic, BadOperand, OutOfRange, UnknownLabel, LabelTwice, TooLong}
 use Rattle.mips_asm.specs.Text.{asm_lines, content, colon_parts, labels_in, is_good_byte}
 use Rattle.mips_asm.specs.Operand.{adds, signed_operand}
-use Rattle.mips_asm.specs.Line.{LineMeaning, bad_byte, unknown, bad_operand, unknown_label, out_of_range, word, zeros, branch, jump, line_meaning, width, with_reading}
+use Rattle.mips_asm.specs.Line.{LineMeaning, bad_byte, unknown, bad_operand, unknown_label, out_of_range, word}
+use Rattle.mips_asm.specs.Line.{zeros, branch, jump, line_meaning, width, with_reading}
 
 -- the labels at the start of a line, those before a bad byte where it has one
 abbrev pub labels : List ℕ → List (List ℕ)
@@ -80,7 +82,8 @@ twice_fault number twice = if twice then Some (LabelTwice number) else None
 -- the fault of a line after the lines `before`, in a text with these lines
 abbrev pub line_fault : List (List ℕ) → List (List ℕ) → List ℕ → Option AsmFault
 line_fault lines before line =
-    option_or (meaning_fault (bytes_in before + prefix_len is_good_byte line) (length before + 1) (labels_resolved (label_position lines) (word_count before) (line_meaning line)))
+    option_or (meaning_fault (bytes_in before + prefix_len is_good_byte line) (length before + 1)
+    (labels_resolved (label_position lines) (word_count before) (line_meaning line)))
     (twice_fault (length before + 1) (repeats (flat_map labels before) (labels line)))
 
 -- the first fault of the lines `rest` after the lines `before`; after the last line, that there are too many words

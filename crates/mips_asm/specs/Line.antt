@@ -1,5 +1,6 @@
 -- The meaning of a line, its labels apart.
-use Rattle.std.specs.Prelude.{ℕ, ℤ, pos, negsuc, ◌+◌, ◌^◌, ◌%◌, ◌&&◌, ◌||◌, ◌==◌, Bool, true, false, List, [], ◌∷◌, length, drop, take, slice_index, codes, bytes_eq, Option, Some, None, is_some, if◌then◌else◌, nat_le}
+use Rattle.std.specs.Prelude.{ℕ, ℤ, pos, negsuc, ◌+◌, ◌^◌, ◌%◌, ◌&&◌, ◌||◌, ◌==◌, Bool, true, false, List}
+use Rattle.std.specs.Prelude.{[], ◌∷◌, length, drop, take, slice_index, codes, bytes_eq, Option, Some, None, is_some, if◌then◌else◌, nat_le}
 use Rattle.std.specs.Int.{w32}
 use Rattle.std.proofs.Common.{of_z}
 use Rattle.std.specs.Int.Signed.{le_z}

@@ -1,5 +1,6 @@
 -- What the text of an operand says.
-use Rattle.std.specs.Prelude.{ℕ, ℤ, pos, negsuc, ◌+◌, ◌-◌, ◌*◌, ◌^◌, ◌&&◌, ◌==◌, List, length, drop, take, slice_index, slice_range, Option, Some, None, not, option_map, option_and_then, if◌then◌else◌, nat_lt, nat_le}
+use Rattle.std.specs.Prelude.{ℕ, ℤ, pos, negsuc, ◌+◌, ◌-◌, ◌*◌, ◌^◌, ◌&&◌, ◌==◌, List, length, drop}
+use Rattle.std.specs.Prelude.{take, slice_index, slice_range, Option, Some, None, not, option_map, option_and_then, if◌then◌else◌, nat_lt, nat_le}
 use Rattle.std.specs.Int.{w16}
 use Rattle.std.proofs.Common.{of_z}
 use Rattle.std.specs.Int.Signed.{le_z}

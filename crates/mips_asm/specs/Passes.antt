@@ -31,7 +31,8 @@ repeats_in seen (n ∷ ns) = seen n || repeats_in (λ q. seen q || bytes_eq n q)
 -- the fault of a line
 abbrev pub line_fault_at : (List ℕ → Option ℕ) → (List ℕ → Bool) → ℕ → ℕ → ℕ → List ℕ → Option AsmFault
 line_fault_at position seen start number at line =
-    option_or (meaning_fault (start + prefix_len is_good_byte line) number (labels_resolved position at (line_meaning line))) (twice_fault number (repeats_in seen (labels line)))
+    option_or (meaning_fault (start + prefix_len is_good_byte line) number (labels_resolved position at (line_meaning line)))
+    (twice_fault number (repeats_in seen (labels line)))
 
 -- the first fault of these lines, where the first of them starts at this byte and has this number and position, and these labels are seen
 abbrev pub fault_from : (List ℕ → Option ℕ) → (List ℕ → Bool) → ℕ → ℕ → ℕ → List (List ℕ) → Option AsmFault

@@ -1,7 +1,8 @@
 // Reading of operands.
 
 ghost use Rattle.std.specs.Prelude.{◌≡◌, ◌≤◌, ◌<◌, ◌^◌, ◌*◌, length, option_map, IfSome};
-ghost use Rattle.mips_asm.specs.Operand.{reading as reading_of, numbered as numbered_of, register as register_of, signed_operand as signed_of, unsigned as unsigned_of};
+ghost use Rattle.mips_asm.specs.Operand.{reading as reading_of, numbered as numbered_of, register as register_of};
+ghost use Rattle.mips_asm.specs.Operand.{signed_operand as signed_of, unsigned as unsigned_of};
 ghost use Rattle.mips_asm.specs.Operand.{with_base as with_base_of, memory as memory_of, len_before as len_before_of, in_parentheses as inside_of};
 ghost use Rattle.mips_asm.specs.Operand.{first_bit as first_bit_of};
 ghost use Rattle.mips_asm.specs.View.{reading_view, text_view};

@@ -24,7 +24,8 @@ pub record Taken (x : Environment) (s before : State) (cause : Cause) (edata epc
 
 -- each interrupt that comes is taken so
 abbrev pub InterruptsAreTaken : Type 0
-InterruptsAreTaken = (x : Environment) (s before : State) (cause : Cause) (edata epc : ℕ) → Fits x s → s.off ≡ None → coming x (latched x s) ≡ Interrupt before cause edata epc → Taken x s before cause edata epc
+InterruptsAreTaken = (x : Environment) (s before : State) (cause : Cause) (edata epc : ℕ) → Fits x s → s.off ≡ None → coming x (latched x s)
+    ≡ Interrupt before cause edata epc → Taken x s before cause edata epc
 
 -- eret goes on at epc, with sr and mode from before the interrupt
 abbrev pub EretLeaves : Type 0
@@ -34,7 +35,8 @@ EretLeaves = (x : Environment) (p : Program) (s : State) → Sound (on_machine x
 
 -- a store to the power port ends the run with its word
 abbrev pub PowerEnds : Type 0
-PowerEnds = (x : Environment) (p : Program) (s : State) (rt rs imm : ℕ) → Sound (on_machine x p) → Quiet x s → MemoryHolds (on_machine x p) s.memory → p.code (s.cpu.pc / 4) ≡ Some (Sw rt rs imm)
+PowerEnds = (x : Environment) (p : Program) (s : State) (rt rs imm : ℕ) → Sound (on_machine x p) → Quiet x s → MemoryHolds (on_machine x p) s.memory
+    → p.code (s.cpu.pc / 4) ≡ Some (Sw rt rs imm)
     → sum (slice_index s.cpu.regs rs) (extended imm) ≡ 4 * POWER
     → step x s ≡ step_ended (record (latched x s) { off = Some (slice_index s.cpu.regs rt); cpu = advanced s.cpu })
 

@@ -1,6 +1,7 @@
 -- The run of code: registers, special registers and words as functions of their numbers, and code that is fixed for the run.
 -- No interrupt comes in it, and no line is seen in it.
-use Rattle.std.specs.Prelude.{◌≡◌, ◌≢◌, ℕ, zero, suc, ◌+◌, ◌-◌, ◌*◌, ◌/◌, ◌%◌, ◌^◌, ◌<◌, ◌≤◌, Bool, true, false, not, ◌&&◌, ◌==◌, nat_lt, if◌then◌else◌, List, [], ◌∷◌, ◌++◌, length, drop, slice_index, Option, Some, None}
+use Rattle.std.specs.Prelude.{◌≡◌, ◌≢◌, ℕ, zero, suc, ◌+◌, ◌-◌, ◌*◌, ◌/◌, ◌%◌, ◌^◌, ◌<◌, ◌≤◌, Bool, true, false}
+use Rattle.std.specs.Prelude.{not, ◌&&◌, ◌==◌, nat_lt, if◌then◌else◌, List, [], ◌∷◌, ◌++◌, length, drop, slice_index, Option, Some, None}
 use Rattle.mips_table.specs.declared.inst.Inst.{Inst}
 use Rattle.mips_table.specs.declared.inst.Inst.TheVariants.{Mfc0, Mtc0}
 use Rattle.mips_table.specs.declared.effect.Effect.{Effect}
@@ -182,7 +183,8 @@ abbrev pub EffectMay : World → Inst → Contents → Effect → Type 0
 EffectMay w i c (Set register value to) = to % 4 ≡ 0
 EffectMay w i c (Wide hi lo to) = to % 4 ≡ 0
 EffectMay w i c (Load register address) = (address % 4 ≡ 0) × (w.words ≤ address / 4 → w.system ≡ true)
-EffectMay w i c (Store address value) = (address % 4 ≡ 0) × (w.words ≤ address / 4 → w.system ≡ true) × (w.kept (address / 4) ≡ None) × (address / 4 ≢ POWER) × (address / 4 ≡ COMMAND → c.memory SECTOR < w.count)
+EffectMay w i c (Store address value) = (address % 4 ≡ 0) × (w.words ≤ address / 4 → w.system ≡ true) × (w.kept (address / 4) ≡ None) × (address / 4 ≢ POWER)
+    × (address / 4 ≡ COMMAND → c.memory SECTOR < w.count)
 EffectMay w i c Overflow = ⊥
 EffectMay w i c Call = ⊥
 EffectMay w i c System = PrivilegedMay w i
@@ -240,7 +242,8 @@ CodeAt w n (i ∷ is) = (w.code n ≡ Some i) × CodeAt w (n + 1) is
 
 -- wherever the block stands, it leads from each state of P to one of Q, by its end, in so many steps at most
 pub record Does (w : World) (is : List Inst) (steps : ℕ) (P Q : Contents → Behind → Type 0) : Type 0 where
-  pub by : (n : ℕ) (c : Contents) (d : Behind) → CodeAt w n is → P c d → (c' : Contents) × (d' : Behind) × Q c' d' × Reaches w steps (at_with n c d) (at_with (n + length is) c' d')
+  pub by : (n : ℕ) (c : Contents) (d : Behind) → CodeAt w n is → P c d → (c' : Contents) × (d' : Behind) × Q c' d'
+      × Reaches w steps (at_with n c d) (at_with (n + length is) c' d')
 
 -- from each configuration of P the code comes to one of Q, in so many steps at most: for exits, calls and jumps
 pub record LeadsTo (w : World) (steps : ℕ) (P Q : CodeState → Type 0) : Type 0 where

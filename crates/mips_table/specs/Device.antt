@@ -1,5 +1,6 @@
 -- The outside, and the disk with its ports. A port is named by its word number: word k stands at the address 4 * k.
-use Rattle.std.specs.Prelude.{◌≡◌, ℕ, zero, suc, ◌+◌, ◌-◌, ◌^◌, ◌<◌, Bool, true, false, not, ◌&&◌, ◌==◌, nat_lt, if◌then◌else◌, List, [], slice_index, slice_index_or, slice_set}
+use Rattle.std.specs.Prelude.{◌≡◌, ℕ, zero, suc, ◌+◌, ◌-◌, ◌^◌, ◌<◌, Bool, true, false}
+use Rattle.std.specs.Prelude.{not, ◌&&◌, ◌==◌, nat_lt, if◌then◌else◌, List, [], slice_index, slice_index_or, slice_set}
 
 -- the first word of the disk's buffer of 1,024 words, at ffffe000
 abbrev pub BUFFER : ℕ

@@ -1,10 +1,13 @@
 -- What each instruction does.
 use Rattle.std.specs.Prelude.{ℕ, ◌+◌, ◌*◌, ◌/◌, ◌%◌, ◌^◌, ◌<◌, Bool, not, if◌then◌else◌, ◌==◌, nat_lt, bit_and, bit_or, bit_xor}
 use Rattle.mips_table.specs.declared.inst.Inst.{Inst}
-use Rattle.mips_table.specs.declared.inst.Inst.TheVariants.{Sll, Srl, Sra, Sllv, Srlv, Srav, Jr, Jalr, Syscall, Add, Addu, Sub, Subu, And, Or, Xor, Nor, Slt, Sltu, Bltz, Bgez, J, Jal, Beq, Bne, Blez, Bgtz, Addi, Addiu, Slti, Sltiu, Andi, Ori, Xori, Lui, Mfc0, Mtc0, Eret, Lw, Sw, Mult, Multu, Div, Divu, Mfhi, Mthi, Mflo, Mtlo}
+use Rattle.mips_table.specs.declared.inst.Inst.TheVariants.{Sll, Srl, Sra, Sllv, Srlv, Srav, Jr, Jalr, Syscall, Add, Addu, Sub, Subu, And, Or, Xor}
+use Rattle.mips_table.specs.declared.inst.Inst.TheVariants.{Nor, Slt, Sltu, Bltz, Bgez, J, Jal, Beq, Bne, Blez, Bgtz, Addi, Addiu, Slti, Sltiu, Andi}
+use Rattle.mips_table.specs.declared.inst.Inst.TheVariants.{Ori, Xori, Lui, Mfc0, Mtc0, Eret, Lw, Sw, Mult, Multu, Div, Divu, Mfhi, Mthi, Mflo, Mtlo}
 use Rattle.mips_table.specs.declared.effect.Effect.{Effect}
 use Rattle.mips_table.specs.declared.effect.Effect.TheVariants.{Set, Wide, Load, Store, Overflow, Call, System}
-use Rattle.mips_table.specs.Arith.{sum, difference, sum_overflows, difference_overflows, less, is_negative, is_positive, shifted_left, shifted_right, shifted_signed, nor, flag, extended, signed_product, upper, lower, signed_quotient, signed_remainder}
+use Rattle.mips_table.specs.Arith.{sum, difference, sum_overflows, difference_overflows, less, is_negative, is_positive, shifted_left, shifted_right}
+use Rattle.mips_table.specs.Arith.{shifted_signed, nor, flag, extended, signed_product, upper, lower, signed_quotient, signed_remainder}
 
 -- the address of the next instruction
 abbrev pub next_address : ℕ → ℕ

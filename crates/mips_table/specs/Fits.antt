@@ -93,7 +93,8 @@ pub record Fits (x : Environment) (s : State) : Type 0 where
 
 -- the machine fits at its start
 abbrev pub StartFits : Type 0
-StartFits = (x : Environment) (memory : List ℕ) (sectors : List (List ℕ)) (input : List ℕ) → HasEightLines x → All IsWord memory → length sectors ≡ x.count → All IsPage sectors → IsWord (length input) → All IsWord input
+StartFits = (x : Environment) (memory : List ℕ) (sectors : List (List ℕ)) (input : List ℕ) → HasEightLines x → All IsWord memory → length sectors ≡ x.count
+    → All IsPage sectors → IsWord (length input) → All IsWord input
     → Fits x (power_on memory sectors input)
 
 -- a machine that fits goes on to fit, and its memory keeps its length

@@ -1,5 +1,6 @@
 -- The physical machine: one step of it, with the lines and the busy times that the outside gives, and its run.
-use Rattle.std.specs.Prelude.{ℕ, zero, suc, ◌+◌, ◌*◌, ◌/◌, ◌%◌, ◌^◌, Bool, true, false, not, ◌&&◌, ◌||◌, ◌==◌, nat_lt, if◌then◌else◌, List, [], ◌∷◌, ◌++◌, length, drop, replicate, slice_index, slice_set, bit_or, Option, Some, None, is_some}
+use Rattle.std.specs.Prelude.{ℕ, zero, suc, ◌+◌, ◌*◌, ◌/◌, ◌%◌, ◌^◌, Bool, true, false, not, ◌&&◌, ◌||◌, ◌==◌, nat_lt}
+use Rattle.std.specs.Prelude.{if◌then◌else◌, List, [], ◌∷◌, ◌++◌, length, drop, replicate, slice_index, slice_set, bit_or, Option, Some, None, is_some}
 use Rattle.mips_table.specs.declared.special.TheConstants.{SR, ESR, EPC, PTO, PTL, MODE, EMODE, IS_VALID, IS_PROTECTED}
 use Rattle.mips_table.specs.declared.console.TheConstants as constants
 use Rattle.mips_table.specs.declared.inst.Inst.{Inst}
@@ -185,14 +186,16 @@ pub data Coming : Type 0 where
 -- an instruction with opcode 10 (hexadecimal), in system mode
 abbrev pub privileged : State → ℕ → Option Inst → Coming
 privileged s word (Some (Mfc0 rt special)) = Done (record s { cpu = went_on s.cpu rt (slice_index s.special special) (next_address s.cpu.pc) })
-privileged s word (Some (Mtc0 rt special)) = Done (record s { special = slice_set s.special special (flagged special (slice_index s.cpu.regs rt)); cpu = advanced s.cpu })
+privileged s word (Some (Mtc0 rt special)) =
+    Done (record s { special = slice_set s.special special (flagged special (slice_index s.cpu.regs rt)); cpu = advanced s.cpu })
 privileged s word (Some Eret) = Done (record s { special = left s.special; cpu = record s.cpu { pc = slice_index s.special EPC } })
 privileged s word other = Interrupt s Illegal word s.cpu.pc
 
 -- what comes of the processor's move, once the instruction is fetched
 abbrev pub moved : Environment → State → Move → Coming
 moved x s (Ran c) = Done (record s { cpu = c })
-moved x s (Loaded c register address) = Done (record (after_read_at s (located s false address)) { cpu = with_loaded c register (read_at s (located s false address)) })
+moved x s (Loaded c register address) =
+    Done (record (after_read_at s (located s false address)) { cpu = with_loaded c register (read_at s (located s false address)) })
 moved x s (Stored c address value) = Done (record (written_at x s (located s true address) value) { cpu = c })
 moved x s (Trapped cause edata epc) = Interrupt s cause edata epc
 moved x s (Privileged word) = if in_system s.special then privileged s word (decoding word) else Interrupt s Illegal word s.cpu.pc

@@ -1,5 +1,6 @@
 -- How the machines simulate a run of code: the physical one in system mode with sr 0, and the flat one.
-use Rattle.std.specs.Prelude.{◌≡◌, ℕ, zero, suc, ◌+◌, ◌-◌, ◌/◌, ◌%◌, ◌<◌, ◌≤◌, false, nat_lt, ◌==◌, if◌then◌else◌, List, [], length, slice_index, bit_or, All, Some, None}
+use Rattle.std.specs.Prelude.{◌≡◌, ℕ, zero, suc, ◌+◌, ◌-◌, ◌/◌, ◌%◌, ◌<◌, ◌≤◌, false}
+use Rattle.std.specs.Prelude.{nat_lt, ◌==◌, if◌then◌else◌, List, [], length, slice_index, bit_or, All, Some, None}
 use Rattle.mips_table.specs.declared.inst.Inst.{Inst}
 use Rattle.mips_table.specs.Flat.{Flat, VStep, Goes, Trap, vstep}
 use Rattle.mips_table.specs.Device.{Device, Idle, Environment, BUFFER, SECTOR, is_buffer, sector_of}
@@ -131,4 +132,5 @@ pub record SimulatesFlat (w : World) (n : ℕ) (f : Flat) : Type 0 where
 
 -- the flat machine simulates each run of code too
 abbrev pub FlatSimulates : Type 0
-FlatSimulates = (p : Program) (f : Flat) (n : ℕ) (t : CodeState) → Sound (on_flat p) → FlatFits f → MemoryHolds (on_flat p) f.words → Steps (on_flat p) n (flat_configuration f) t → SimulatesFlat (on_flat p) n f
+FlatSimulates = (p : Program) (f : Flat) (n : ℕ) (t : CodeState) → Sound (on_flat p) → FlatFits f → MemoryHolds (on_flat p) f.words
+    → Steps (on_flat p) n (flat_configuration f) t → SimulatesFlat (on_flat p) n f

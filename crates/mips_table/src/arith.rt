@@ -1,7 +1,8 @@
 // Arithmetic on words of 32 bits. A word stands for a signed number by two's complement where a name says so.
 
 ghost use Rattle.std.specs.Prelude.{◌≡◌, ◌≢◌, ◌^◌, ◌<◌};
-ghost use Rattle.mips_table.specs.Arith.{sum, difference, sum_overflows, difference_overflows, less, is_negative, is_positive, shifted_left, shifted_right, shifted_signed, nor, flag, extended, signed_product, upper, lower, signed_quotient, signed_remainder};
+ghost use Rattle.mips_table.specs.Arith.{sum, difference, sum_overflows, difference_overflows, less, is_negative, is_positive, shifted_left, shifted_right};
+ghost use Rattle.mips_table.specs.Arith.{shifted_signed, nor, flag, extended, signed_product, upper, lower, signed_quotient, signed_remainder};
 
 /// The sum, modulo 2^32.
 pub fn sum(a: u32, b: u32) -> u32

@@ -107,8 +107,10 @@ KeepsUser w = (u : ℕ) (c : Contents) (d : Behind) → MayKeep w u → IsCurren
 
 -- both
 abbrev pub SavesUser : World → Type 0
-SavesUser w = MaySave w → (u : ℕ) (c : Contents) (d : Behind) → MayKeep w u → IsCurrent w u c → d.pending ≡ Idle → From w (save_registers_code 31 ++ save_user_code) 104 c d (UserSaved u c d)
+SavesUser w = MaySave w → (u : ℕ) (c : Contents) (d : Behind) → MayKeep w u → IsCurrent w u c → d.pending ≡ Idle
+    → From w (save_registers_code 31 ++ save_user_code) 104 c d (UserSaved u c d)
 
 -- the current user is restored
 abbrev pub RestoresUser : World → Type 0
-RestoresUser w = w.system ≡ true → (u : ℕ) (c : Contents) (d : Behind) → IsCurrent w u c → d.pending ≡ Idle → From w restore_user_code 42 c d (UserRestored u c d)
+RestoresUser w = w.system ≡ true → (u : ℕ) (c : Contents) (d : Behind) → IsCurrent w u c → d.pending ≡ Idle
+    → From w restore_user_code 42 c d (UserRestored u c d)

@@ -1,7 +1,8 @@
 // The blocks.
 ghost use Rattle.std.specs.Prelude.{◌≡◌, ◌<◌, ◌≤◌, map};
 ghost use Rattle.mips_table.specs.Encoding.{encoding};
-ghost use Rattle.pcb_layer.specs.Code.{save_registers_code, restore_registers_code, find_control_block_code, save_context_code, save_user_code, restore_user_code, load_registers_code};
+ghost use Rattle.pcb_layer.specs.Code.{save_registers_code, restore_registers_code, find_control_block_code, save_context_code};
+ghost use Rattle.pcb_layer.specs.Code.{save_user_code, restore_user_code, load_registers_code};
 
 use layer_map::{BLOCK_HI, BLOCK_LO, BLOCK_PC, CURRENT, VARIABLES};
 use masm::addresses::BLOCKS;

@@ -17,7 +17,8 @@ adder limit = record {
   structs = [];
   globals = [];
   functions =
-      function tree.int (codes "main") 0 [] (code (decl tree.int (codes "i") Local 0 ∷ decl tree.int (codes "s") Local 1 ∷ decl tree.int (codes "a") Local 2 ∷ []) (block (
+      function tree.int (codes "main") 0 []
+      (code (decl tree.int (codes "i") Local 0 ∷ decl tree.int (codes "s") Local 1 ∷ decl tree.int (codes "a") Local 2 ∷ []) (block (
       loop z (binary z Lt (local (codes "i") 0) (number limit)) (block (
       assign z (local (codes "i") 0) (binary z Add (local (codes "i") 0) (number 1)) ∷
       assign z (local (codes "s") 1) (binary z Add (local (codes "s") 1) (local (codes "i") 0)) ∷ [])) ∷

@@ -24,4 +24,5 @@ pub record AskedAndEnded (f : Flat) (most value answer : ℕ) : Type 0 where
 
 -- A LAW: the image of such a program asks with its number, goes on with the answer, and ends, within the steps of its units
 abbrev pub ProgramsAskAndEnd : Type 0
-ProgramsAskAndEnd = (u : CUnit) (n value answer : ℕ) → BringsAndEnds u n value answer → answer < 2 ^ 31 → AskedAndEnded (first_flat (image_words u)) (steps_of n) value answer
+ProgramsAskAndEnd = (u : CUnit) (n value answer : ℕ) → BringsAndEnds u n value answer → answer < 2 ^ 31
+    → AskedAndEnded (first_flat (image_words u)) (steps_of n) value answer

@@ -74,4 +74,5 @@ pub record ComesToCall (f : Flat) (most : ℕ) (a : ℤ) : Type 0 where
 
 -- A LAW: where the first call of a program is known within n units, its image comes to that call within their steps
 abbrev pub FirstCallsCome : Type 0
-FirstCallsCome = (u : CUnit) (n : ℕ) (a : ℤ) → IsProgram u → slice_get (prog u [] n).arguments 0 ≡ Some a → ComesToCall (first_flat (image_words u)) (steps_of n) a
+FirstCallsCome = (u : CUnit) (n : ℕ) (a : ℤ) → IsProgram u → slice_get (prog u [] n).arguments 0 ≡ Some a
+    → ComesToCall (first_flat (image_words u)) (steps_of n) a

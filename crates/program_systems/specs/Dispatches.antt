@@ -20,7 +20,8 @@ pub record CallsIn (u : CUnit) (es : List Event) (before : Core) (d : Dispatch) 
 -- A LAW: where the dispatch sets register 2 of its caller to an int, and nothing else, it is that call answered, and the program is told that int; where it
 -- changes no machine it is the call without an answer
 pub record DispatchesAnswerCalls : Type 0 where
-  pub answered : (u : CUnit) (es : List Event) (before : Core) (d : Dispatch) (a : ℤ) → CallsIn u es before d → FitsSigned w32 a → d.after.users ≡ set_in d.before.users d.before.current 2 a
+  pub answered : (u : CUnit) (es : List Event) (before : Core) (d : Dispatch) (a : ℤ) → CallsIn u es before d → FitsSigned w32 a
+      → d.after.users ≡ set_in d.before.users d.before.current 2 a
       → UserHasCome u (es ++ call (Some (cast_unsigned w32 a)) ∷ []) (user_of d.after.users before.current) × (answer_of (Some (cast_unsigned w32 a)) ≡ a)
   pub unanswered : (u : CUnit) (es : List Event) (before : Core) (d : Dispatch) → CallsIn u es before d → d.after.users ≡ d.before.users
       → UserHasCome u (es ++ call None ∷ []) (user_of d.after.users before.current)

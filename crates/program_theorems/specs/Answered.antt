@@ -12,10 +12,13 @@ use Rattle.run_scripts.specs.Isolation.{IsolatedTrace}
 
 -- A LAW: each system that is run is ordinary: its kernel is a checked unit, its parameters are in range, its users are few, and they and its input have room
 abbrev pub BootedAreOrdinary : Type 0
-BootedAreOrdinary = (words : List (List ℕ)) (session : Session) (s : ImageSystem) (rows : Rows) (before : List (List ℕ)) (old new : Outside) → IsHonest words session s rows before old new
+BootedAreOrdinary = (words : List (List ℕ)) (session : Session) (s : ImageSystem) (rows : Rows) (before : List (List ℕ)) (old new : Outside)
+    → IsHonest words session s rows before old new
     → IsOrdinary (booted s rows) s.unit
 
 -- A LAW: so a trace whose journal is made of steps, calls with what they were answered, and other traps is answered
 abbrev pub TracesAreAnswered : Type 0
-TracesAreAnswered = (words : List (List ℕ)) (session : Session) (u : ℕ) (s : ImageSystem) (rows : Rows) (before : List (List ℕ)) (old new : Outside) (status : Status)
-    → IsHonest words session s rows before old new → (a : IsolatedTrace session u s rows before old new status) → (es : List Event) → a.entries ≡ journal_of es → IsAnsweredJournal a.entries
+TracesAreAnswered = (words : List (List ℕ)) (session : Session) (u : ℕ) (s : ImageSystem) (rows : Rows) (before : List (List ℕ))
+    (old new : Outside) (status : Status)
+    → IsHonest words session s rows before old new → (a : IsolatedTrace session u s rows before old new status) → (es : List Event) → a.entries ≡ journal_of es
+    → IsAnsweredJournal a.entries

@@ -33,8 +33,10 @@ AnswersUser y n u (d ∷ rest) = Answers y n u d × AnswersUser y n u rest
 
 -- A LAW: where each dispatch of a run answers a user, its journal is that of events; so its trace is answered, as `booted_programs_run` asks
 pub record KernelsAnswer : Type 0 where
-  pub journals : (y : System) (n u : ℕ) (lines : ℕ → ℕ) (k : ℕ) → AnswersUser y n u (dispatches_of y lines n k) → (es : List Event) × (journal y lines n u k ≡ journal_of es)
-  pub traces : (words : List (List ℕ)) (session : Session) (u : ℕ) (s : ImageSystem) (rows : Rows) (before : List (List ℕ)) (old new : Outside) (status : Status)
+  pub journals : (y : System) (n u : ℕ) (lines : ℕ → ℕ) (k : ℕ) → AnswersUser y n u (dispatches_of y lines n k) → (es : List Event)
+      × (journal y lines n u k ≡ journal_of es)
+  pub traces : (words : List (List ℕ)) (session : Session) (u : ℕ) (s : ImageSystem) (rows : Rows) (before : List (List ℕ))
+      (old new : Outside) (status : Status)
       → IsHonest words session s rows before old new → (a : IsolatedTrace session u s rows before old new status)
       → AnswersUser (booted s rows) a.units u (dispatches_of (booted s rows) (session_lines session s rows old before) a.units a.turns)
       → IsAnsweredJournal a.entries

@@ -36,9 +36,12 @@ pub record HasSum (layer : Map → List ℕ → List ℕ) (s : ImageSystem) (u :
 pub record TellsSum (program : CUnit) (es : List Event) : Type 0 where
   pub asks : (before after : List Event) (reply : Option ℕ) (f : Flat) → es ≡ before ++ (call reply ∷ after)
       → replay (first_flat (image_words program)) (journal_of before) ≡ Some f → (call_count before ≡ 0) × (signed (slice_index f.cpu.regs 4) ≡ pos 55)
-  pub ends : (before after : List Event) (cause edata : ℕ) → es ≡ before ++ (other cause edata ∷ after) → (cause ≡ SYSCALL) × (edata ≡ 0x4c) × (call_count before ≡ 1)
+  pub ends : (before after : List Event) (cause edata : ℕ) → es ≡ before ++ (other cause edata ∷ after) → (cause ≡ SYSCALL) × (edata ≡ 0x4c)
+      × (call_count before ≡ 1)
 
 -- A LAW: each trace of such a user whose calls its kernel answers prints such a journal
 abbrev pub SumsAreTraced : Type 0
-SumsAreTraced = (layer : Map → List ℕ → List ℕ) (session : Session) (u : ℕ) (s : ImageSystem) (rows : Rows) (before : List (List ℕ)) (old new : Outside) (status : Status)
-    (a : IsolatedTrace session u s rows before old new status) (program : CUnit) → HasSum layer s u program → (answered : IsAnsweredJournal a.entries) → TellsSum program answered.events
+SumsAreTraced = (layer : Map → List ℕ → List ℕ) (session : Session) (u : ℕ) (s : ImageSystem) (rows : Rows) (before : List (List ℕ))
+    (old new : Outside) (status : Status)
+    (a : IsolatedTrace session u s rows before old new status) (program : CUnit) → HasSum layer s u program → (answered : IsAnsweredJournal a.entries)
+    → TellsSum program answered.events

@@ -32,4 +32,5 @@ memory_routines m =
     let n = m.users in
     let per = m.params.pages in
     let page = handle_page_code (table_layout m) in
-    returning (vm_resize_code p n per) ∷ returning (vm_word_code p n per page) ∷ returning (vm_put_code p n per page) ∷ returning (vm_copy_code p n per page) ∷ []
+    returning (vm_resize_code p n per) ∷ returning (vm_word_code p n per page) ∷ returning (vm_put_code p n per page)
+    ∷ returning (vm_copy_code p n per page) ∷ []

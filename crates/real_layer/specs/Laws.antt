@@ -10,7 +10,8 @@ use Rattle.cvm_model.specs.Kernel.{Core}
 use Rattle.cvm_model.specs.Primitives.{VmResize, user_of, pages_of, is_good}
 use Rattle.cvm_model.specs.Paged.{paged_of}
 use Rattle.cvm_model.specs.Stands.{Site}
-use Rattle.layer_contract.specs.Layer.{Linked, EntersFirst, Enters, Exits, Leaves, PrimitivesAnswer, FaultsSettle, Laws, IsEntry, ComesBy, InUserMode, PageBrought, BusyWithin, PrimitiveCalled, ComesBack}
+use Rattle.layer_contract.specs.Layer.{Linked, EntersFirst, Enters, Exits, Leaves, PrimitivesAnswer, FaultsSettle, Laws}
+use Rattle.layer_contract.specs.Layer.{IsEntry, ComesBy, InUserMode, PageBrought, BusyWithin, PrimitiveCalled, ComesBack}
 use Rattle.real_layer.specs.Image.{layer_image, image_site, IsMade}
 
 -- the exits of the kernel's faults
@@ -63,7 +64,8 @@ handled_steps m longest s = names_at m s * (longest + 2707) + longest + 2892
 -- a handled fault takes no more, the step that meets it among them; and at most four pages name the frame at the hand
 abbrev pub FaultsCost : Site → Type 0
 FaultsCost y = (x : Environment) (longest : ℕ) (s : State) (c : Core) → BusyWithin x longest → InUserMode x y c s → handled x s ≡ true →
-    (names_at y.map s ≤ 4) × ComesBy x y IsEntry (handled_steps y.map longest s - 1) (step x s) (λ t. InUserMode x y c t × PageBrought y c s t (coming x (latched x s)))
+    (names_at y.map s ≤ 4) × ComesBy x y IsEntry (handled_steps y.map longest s - 1) (step x s) (λ t. InUserMode x y c t
+    × PageBrought y c s t (coming x (latched x s)))
 
 -- the handled faults: they settle, and what one costs
 pub record FaultsHandled (y : Site) : Type 0 where

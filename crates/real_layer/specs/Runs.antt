@@ -1,6 +1,7 @@
 -- A run of one block of the layer's code, as the machine makes it: in the block's words, with the sectors past the users' pages and the frames behind
 -- the map's last one as they were, and no command for one of those sectors.
-use Rattle.std.specs.Prelude.{◌≡◌, ◌≢◌, ℕ, ◌+◌, ◌*◌, ◌^◌, ◌<◌, ◌≤◌, ◌&&◌, not, false, nat_lt, if◌then◌else◌, List, length, map, slice_index, All, Option, Some, None}
+use Rattle.std.specs.Prelude.{◌≡◌, ◌≢◌, ℕ, ◌+◌, ◌*◌, ◌^◌, ◌<◌, ◌≤◌, ◌&&◌, not, false}
+use Rattle.std.specs.Prelude.{nat_lt, if◌then◌else◌, List, length, map, slice_index, All, Option, Some, None}
 use Rattle.mips_table.specs.declared.inst.Inst.{Inst}
 use Rattle.mips_table.specs.Encoding.{InRange, encoding}
 use Rattle.mips_table.specs.Device.{Idle, Environment}

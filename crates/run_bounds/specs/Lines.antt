@@ -36,4 +36,5 @@ RaisedLinesAreFew = (rows : Rows) (count : ℕ) (s : State) (turns : ℕ) → tu
 
 -- EACH DISPATCH THAT TAKES LINES has a turn that has some: so many are made in k turns at most
 abbrev pub LinesTakenAreFew : Type 0
-LinesTakenAreFew = (y : System) (lines : ℕ → ℕ) (n k : ℕ) (c : Cvm) → cvm y lines n k ≡ Some c → lines_taken (dispatches_of y lines n k) ≤ turns_with_lines lines k
+LinesTakenAreFew = (y : System) (lines : ℕ → ℕ) (n k : ℕ) (c : Cvm) → cvm y lines n k ≡ Some c
+    → lines_taken (dispatches_of y lines n k) ≤ turns_with_lines lines k

@@ -11,12 +11,14 @@ use Rattle.cvm_model.specs.Systems.{UsePages}
 -- a law: within n units a dispatch takes at most n, and the pages that its primitives touch are no more than its units
 abbrev pub DispatchesUsePages : Type 0
 DispatchesUsePages = (u : CUnit) (p : Params) (n : ℕ) (c : Core) (cause edata user : ℤ) →
-    ((kernel_meaning u p).dispatch n c cause edata user).units ≤ n × ((kernel_meaning u p).dispatch n c cause edata user).pages ≤ ((kernel_meaning u p).dispatch n c cause edata user).units
+    ((kernel_meaning u p).dispatch n c cause edata user).units ≤ n
+    × ((kernel_meaning u p).dispatch n c cause edata user).pages ≤ ((kernel_meaning u p).dispatch n c cause edata user).units
 
 -- the steps of so many turns with so many dispatches, each of at most so many units and pages
 abbrev pub steps_for : System → (turns dispatches units pages : ℕ) → ℕ
 steps_for y turns dispatches units pages =
-    reset_steps (map_of y.boot) + turns * turn_steps (map_of y.boot) y.longest + dispatches * (enter_steps + leave_steps + run_steps (map_of y.boot) y.longest units pages)
+    reset_steps (map_of y.boot) + turns * turn_steps (map_of y.boot) y.longest
+    + dispatches * (enter_steps + leave_steps + run_steps (map_of y.boot) y.longest units pages)
 
 -- THE BOUND IS SMALL: after k turns, whose dispatches are told by the rows, with n units each: by the pages that they touch, or by as many pages as units
 pub record BoundIsSmall (y : System) (lines : ℕ → ℕ) (n k : ℕ) (c : Cvm) : Type 0 where

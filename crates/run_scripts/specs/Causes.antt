@@ -63,8 +63,8 @@ pub record IsTooLong (words : List (List ℕ)) (old new : Outside) : Type 0 wher
   pub is_plan : IsPlan (AllTold words old.shelf.file) (PlanComesTo words old.shelf.file) (refuses too_long)
   pub taken : new.shelf.taken ≡ TOO_LONG
 
--- BY THE STATUS, over any outside: an object failed and counted one fault, or the disk is too small, or a file is too long; else no count changed, and 3 and 4 come
--- of a run, 0 of one or of a plan that loads nothing
+-- BY THE STATUS, over any outside: an object failed and counted one fault, or the disk is too small, or a file is too long; else no count changed, and 3 and 4
+-- come of a run, 0 of one or of a plan that loads nothing
 abbrev pub CausedBy : Status → List (List ℕ) → (old new : Outside) → Type 0
 CausedBy Disk words old new = FaultRose (Some TheDisk) old new ⊎ (FaultRose None old new × IsTooSmall words old)
 CausedBy Shelf words old new = FaultRose (Some TheShelf) old new ⊎ (FaultRose None old new × IsTooLong words old new)

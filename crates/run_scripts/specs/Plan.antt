@@ -48,7 +48,8 @@ use Rattle.c0_types.specs.declared.source_fault.SourceFault.{SourceFault}
 use Rattle.sample_maker.specs.Parts.{SampleParts as Sampled}
 use Rattle.sample_maker.specs.Sample.{sample_of}
 use Rattle.run_scripts.specs.declared.session.Session.{Session}
-use Rattle.run_scripts.specs.Command.{BootCommand, Command, boot, trace, save, resume, compile_user, compile_kernel, compile_program, link, migrate, sample, check, IsCommand, IsNoCommand, boot_session, trace_session, save_session, sample_session}
+use Rattle.run_scripts.specs.Command.{BootCommand, Command, boot, trace, save, resume, compile_user, compile_kernel, compile_program, link}
+use Rattle.run_scripts.specs.Command.{migrate, sample, check, IsCommand, IsNoCommand, boot_session, trace_session, save_session, sample_session}
 use Rattle.run_scripts.specs.Served.{files_of}
 use Rattle.run_scripts.specs.Check.{CheckTold, TellsObject}
 use Rattle.run_scripts.specs.Refusal.{Refusal, bad_text, bad_source, bad_object, bad_file, bad_program, unlinked, unaccepted, bad_schedule, bad_save, too_long}

@@ -1,7 +1,8 @@
 -- WHERE NO CALL FAILS: a file that the shelf surely gives is got. And the files that a command gets, with the one that it may put.
 -- That an object counted no fault is said as "not one more": a command counts one at most.
 use Rattle.std.specs.Prelude.{◌≡◌, ◌⊎◌, ℕ, ⊤, Bool, true, List, [], ◌∷◌, map, Option, Some, None}
-use Rattle.run_scripts.specs.Command.{Command, boot, trace, save, resume, compile_user, compile_kernel, compile_program, link, migrate, sample, check, IsCommand}
+use Rattle.run_scripts.specs.Command.{Command, boot, trace, save, resume, compile_user, compile_kernel}
+use Rattle.run_scripts.specs.Command.{compile_program, link, migrate, sample, check, IsCommand}
 use Rattle.cvm_outside.specs.Script.{Call, Got}
 use Rattle.cvm_outside.specs.Causes.{NoneCounted}
 use Rattle.cvm_outside.specs.Outside.{Outside}

@@ -1,12 +1,14 @@
 // Laws of how commands end, each the contract of a function that does nothing.
 ghost use Rattle.run_scripts.specs.Headline.{MemoryKeeps};
 ghost use Rattle.run_scripts.specs.Keys.{RunsStart, EndsAreOver, ScriptLaws};
-ghost use Rattle.run_scripts.specs.Causes.{StatusesAreCaused, WordsAreRefused, FilesAreRefused, MissingUsersAreRefused, SmallDisksAreRefused, LongFilesAreRefused, StepsAreSpent, RunsEnd, WorkCompletes};
+ghost use Rattle.run_scripts.specs.Causes.{StatusesAreCaused, WordsAreRefused, FilesAreRefused, MissingUsersAreRefused, SmallDisksAreRefused};
+ghost use Rattle.run_scripts.specs.Causes.{LongFilesAreRefused, StepsAreSpent, RunsEnd, WorkCompletes};
 ghost use Rattle.run_scripts.specs.Shapes.{PlansHaveShape, OthersStay, NothingIsLoaded, RefusalsKeepTheDisk, GetsComeFirst, ShelfIsCalled};
 ghost use Rattle.run_scripts.specs.Saving.{ScriptsJoin, ResumesJoin};
 ghost use Rattle.run_scripts.specs.Checks.{StackOutIsNotMet};
 ghost use Rattle.run_scripts.specs.Faults.{FaultsLeave, SaveFaultsLeave, ResumeFaultsLeave};
-ghost use Rattle.run_scripts.specs.Promises.{HeadlinesHold, RunsAreComplete, TracesAreIsolated, YesIsEnough, SavesAreHeld, SavesAreComplete, ResumesAreHeld, ResumesAreComplete, MachinesRest};
+ghost use Rattle.run_scripts.specs.Promises.{HeadlinesHold, RunsAreComplete, TracesAreIsolated, YesIsEnough, SavesAreHeld};
+ghost use Rattle.run_scripts.specs.Promises.{SavesAreComplete, ResumesAreHeld, ResumesAreComplete, MachinesRest};
 
 use boot_image::images_are_their_spellings;
 use boot_turns::{

@@ -1,5 +1,6 @@
 -- What is looked at of a file, in order.
-use Rattle.std.specs.Prelude.{ℕ, zero, suc, ◌+◌, ◌-◌, ◌*◌, ◌^◌, ◌||◌, Bool, true, false, List, [], ◌∷◌, ◌++◌, length, slice_index, nat_lt, nat_eq, Result, Ok, Err, if◌then◌else◌}
+use Rattle.std.specs.Prelude.{ℕ, zero, suc, ◌+◌, ◌-◌, ◌*◌, ◌^◌, ◌||◌, Bool, true, false, List}
+use Rattle.std.specs.Prelude.{[], ◌∷◌, ◌++◌, length, slice_index, nat_lt, nat_eq, Result, Ok, Err, if◌then◌else◌}
 use Rattle.cvm_words.specs.Reading.{◌>>=◌}
 use Rattle.mips_table.specs.Machine.{LOG_ROOM}
 use Rattle.mips_machine.specs.Saved.{MARK, from_halves}

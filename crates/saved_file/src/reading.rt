@@ -6,7 +6,8 @@ ghost use Rattle.cvm_words.specs.Bytes.{word, words_of_bytes};
 ghost use Rattle.cvm_words.specs.Reading.{GivesUnless};
 ghost use Rattle.mips_machine.specs.Saved.{from_halves};
 ghost use Rattle.saved_file.specs.Resumable.{CanBeResumed, wanted, is_left_out as left_out, memory_word, memory_position, saved_size_at};
-ghost use Rattle.saved_file.specs.Tests.{tried, all_tried, tests, head_tests, tests_behind, first_tests, special_tests, count_tests, mark_test, field_test, commands_test, end_test, linked_test, size_test, turns_test, each, whole};
+ghost use Rattle.saved_file.specs.Tests.{tried, all_tried, tests, head_tests, tests_behind, first_tests, special_tests, count_tests, mark_test};
+ghost use Rattle.saved_file.specs.Tests.{field_test, commands_test, end_test, linked_test, size_test, turns_test, each, whole};
 ghost use Rattle.saved_file.specs.declared.fault.SaveFault.TheVariants.{Memory};
 ghost use Rattle.saved_file.specs.Answer.{answer, AnswersAreSo, NothingElseIsSo, AnswersAreResumable, ResumablesAreAnswered, SavedIsReadBack};
 

@@ -8,7 +8,9 @@ use Rattle.schedule_file.specs.declared.row.Row.TheVariants.{Line, Busy, Input}
 -- the row of three words
 unfoldable pub row_of_words : List ℕ → List ℕ → List ℕ → Option Row
 row_of_words kind first second =
-    option_and_then (λ a. option_and_then (λ b. if bytes_eq kind (codes "line") then Some (Line a b) else (if bytes_eq kind (codes "busy") then Some (Busy a b) else None)) (number_spelled second)) (number_spelled first)
+    option_and_then (λ a. option_and_then
+    (λ b. if bytes_eq kind (codes "line") then Some (Line a b) else (if bytes_eq kind (codes "busy") then Some (Busy a b) else None)) (number_spelled second))
+    (number_spelled first)
 
 -- the row of two words
 unfoldable pub row_of_pair : List ℕ → List ℕ → Option Row

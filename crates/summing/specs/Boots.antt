@@ -28,12 +28,14 @@ use Rattle.summing.specs.Users.{user_one, user_two}
 -- the report of the system once it has halted, with this total and these machines: nothing was logged
 abbrev pub report_of : (total : ℕ) → List Flat → List ℕ
 report_of total users =
-    codes "halted\n" ++ (globals_text (codes "total" ∷ codes "done" ∷ []) (part (int (pos total)) (part (bool true) empty)) ++ log_text [] ++ users_text 1 users)
+    codes "halted\n" ++ (globals_text (codes "total" ∷ codes "done" ∷ []) (part (int (pos total)) (part (bool true) empty))
+    ++ log_text [] ++ users_text 1 users)
 
 -- WHAT A RUN SHOWS of two users that call after m and n steps with v and w: the state where it stands has the invariant; its status is no kernel's fault; and
 -- under a schedule of so many `line` rows, with as many turns more as these steps and three, and with the steps of the machine for them, it is done, has
 -- halted, and printed at most three rows more than there are `line` rows, and then the report, in which each user stands behind its call
-pub record SumShown (x : Environment) (y : System) (s : State) (late raised turns steps m n v w : ℕ) (f g : Flat) (status : Status) (text : List ℕ) : Type 0 where
+pub record SumShown (x : Environment) (y : System) (s : State) (late raised turns steps m n v w : ℕ) (f g : Flat) (status : Status)
+    (text : List ℕ) : Type 0 where
   pub shown : SystemShown x y s late raised turns steps 100 (HasUsers y) (Sums y m n v w f g) status text
   pub no_fault : status ≢ KernelFault
   pub halted : 3 + m + n + raised ≤ turns → steps_for y (3 + m + n + raised) (3 + raised) 100 0 + late ≤ steps
@@ -47,7 +49,8 @@ AnyUsersSum = (one two : List ℕ) (m n v w : ℕ) → CallsAfter (first_flat on
     → (session : Session) (s : ImageSystem) (rows : Rows) (before : List (List ℕ)) → (h : IsHonest words session s rows before old new)
     → status ≢ Memory → session.view ≡ Boot → AsksSystem kernel_text (one ∷ two ∷ []) h.asked
     → (text : List ℕ) × (new.sink.text ≡ append_known old.sink.text text)
-    × SumShown (environment_of rows old) (booted s rows) (start_state session s rows before) (steps_before session.start (booted s rows)) (length rows.lines) session.turns session.steps
+    × SumShown (environment_of rows old) (booted s rows) (start_state session s rows before) (steps_before session.start (booted s rows))
+    (length rows.lines) session.turns session.steps
     m n v w (first_flat one) (first_flat two) status text
 
 -- the report of the two users of specs/Users: the total is 30, and each user stands behind its call, with its count in register 4
@@ -86,7 +89,8 @@ SummingBoots = (words : List (List ℕ)) (status : Status) (old new : Outside) �
     → (session : Session) (s : ImageSystem) (rows : Rows) (before : List (List ℕ)) → (h : IsHonest words session s rows before old new)
     → status ≢ Memory → session.view ≡ Boot → AsksSystem kernel_text (user_one ∷ user_two ∷ []) h.asked
     → (text : List ℕ) × (new.sink.text ≡ append_known old.sink.text text)
-    × NamedSumShown (environment_of rows old) (booted s rows) (start_state session s rows before) (steps_before session.start (booted s rows)) (length rows.lines) session.turns session.steps status text
+    × NamedSumShown (environment_of rows old) (booted s rows) (start_state session s rows before) (steps_before session.start (booted s rows))
+    (length rows.lines) session.turns session.steps status text
 
 -- THE STEPS in numbers: with 4 pages for each user, 8 frames and no busy times, so many for L `line` rows, before those of a ROM
 abbrev pub StepsAreFew : Type 0

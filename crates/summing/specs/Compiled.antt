@@ -40,7 +40,8 @@ pub record Brings (u : CUnit) (n value : ℕ) : Type 0 where
 -- WHAT A RUN SHOWS of two programs that bring v within n units and w within k: each calls after steps within those of its units; the run shows what it shows
 -- of such users, so its status is no kernel's fault; and with as many turns as these steps, the schedule's `line` rows and three, and the steps of the machine
 -- for them, it is done, has halted, and reports the sum
-pub record ProgramSumShown (x : Environment) (y : System) (s : State) (late raised turns steps : ℕ) (one two : CUnit) (n k v w : ℕ) (status : Status) (text : List ℕ) : Type 0 where
+pub record ProgramSumShown (x : Environment) (y : System) (s : State) (late raised turns steps : ℕ) (one two : CUnit) (n k v w : ℕ) (status : Status)
+    (text : List ℕ) : Type 0 where
   pub first_steps : ℕ
   pub second_steps : ℕ
   pub few_first : first_steps ≤ steps_of n
@@ -48,7 +49,8 @@ pub record ProgramSumShown (x : Environment) (y : System) (s : State) (late rais
   pub shows : SumShown x y s late raised turns steps first_steps second_steps v w (first_flat (image_words one)) (first_flat (image_words two)) status text
   pub halted : 3 + steps_of n + steps_of k + raised ≤ turns → steps_for y (3 + steps_of n + steps_of k + raised) (3 + raised) 100 0 + late ≤ steps
       → (status ≡ Done) × (shows.shown.stands.state.status ≡ Halted) × (length shows.shown.stands.state.rows ≤ 3 + raised)
-      × (text ≡ rows_text shows.shown.stands.state.rows ++ report_of (v + w) (after (suc first_steps) (first_flat (image_words one)) ∷ after (suc second_steps) (first_flat (image_words two)) ∷ []))
+      × (text ≡ rows_text shows.shown.stands.state.rows
+      ++ report_of (v + w) (after (suc first_steps) (first_flat (image_words one)) ∷ after (suc second_steps) (first_flat (image_words two)) ∷ []))
 
 -- EACH BOOT of an image with the kernel's text and the images of two programs that bring numbers shows this, under every schedule
 abbrev pub AnyProgramsSum : Type 0
@@ -57,7 +59,8 @@ AnyProgramsSum = (one two : CUnit) (n k v w : ℕ) → Brings one n v → Brings
     → (session : Session) (s : ImageSystem) (rows : Rows) (before : List (List ℕ)) → (h : IsHonest words session s rows before old new)
     → status ≢ Memory → session.view ≡ Boot → AsksSystem kernel_text (image_words one ∷ image_words two ∷ []) h.asked
     → (text : List ℕ) × (new.sink.text ≡ append_known old.sink.text text)
-    × ProgramSumShown (environment_of rows old) (booted s rows) (start_state session s rows before) (steps_before session.start (booted s rows)) (length rows.lines) session.turns session.steps
+    × ProgramSumShown (environment_of rows old) (booted s rows) (start_state session s rows before) (steps_before session.start (booted s rows))
+    (length rows.lines) session.turns session.steps
     one two n k v w status text
 
 -- AND WHERE IT IS KNOWN BEHIND HOW MANY STEPS THEY TRAP, a and b, it shows what it shows of users that call behind just these
@@ -68,7 +71,8 @@ AnyCountedProgramsSum = (one two : CUnit) (n k v w a b : ℕ) → Brings one n v
     → (session : Session) (s : ImageSystem) (rows : Rows) (before : List (List ℕ)) → (h : IsHonest words session s rows before old new)
     → status ≢ Memory → session.view ≡ Boot → AsksSystem kernel_text (image_words one ∷ image_words two ∷ []) h.asked
     → (text : List ℕ) × (new.sink.text ≡ append_known old.sink.text text)
-    × SumShown (environment_of rows old) (booted s rows) (start_state session s rows before) (steps_before session.start (booted s rows)) (length rows.lines) session.turns session.steps
+    × SumShown (environment_of rows old) (booted s rows) (start_state session s rows before) (steps_before session.start (booted s rows))
+    (length rows.lines) session.turns session.steps
     a b v w (first_flat (image_words one)) (first_flat (image_words two)) status text
 
 -- THE TWO ADDERS, whose machines at the start are f and g: the status is no kernel's fault; and under a schedule of L `line` rows, with 343 turns and L more,
@@ -79,7 +83,8 @@ pub record AddersShown (x : Environment) (y : System) (s : State) (late raised t
   pub no_fault : status ≢ KernelFault
   pub halted : 343 + raised ≤ turns → steps_for y (343 + raised) (3 + raised) 100 0 + late ≤ steps
       → (status ≡ Done) × (length shows.shown.stands.state.rows ≤ 3 + raised)
-      × (text ≡ rows_text shows.shown.stands.state.rows ++ (codes "halted\nglobal total 265\nglobal done true\n" ++ users_text 1 (after 121 f ∷ after 221 g ∷ [])))
+      × (text ≡ rows_text shows.shown.stands.state.rows
+      ++ (codes "halted\nglobal total 265\nglobal done true\n" ++ users_text 1 (after 121 f ∷ after 221 g ∷ [])))
 
 -- EACH BOOT of an image with the kernel's text whose users are compiled of the two texts, under every schedule; their machines at the start are those of the
 -- images of the two trees, whatever places the texts' own trees have
@@ -88,7 +93,8 @@ CompiledSumsBoot = (words : List (List ℕ)) (status : Status) (old new : Outsid
     → (session : Session) (s : ImageSystem) (rows : Rows) (before : List (List ℕ)) → (h : IsHonest words session s rows before old new)
     → status ≢ Memory → session.view ≡ Boot → AsksSource kernel_text h.asked → (layer : Map → List ℕ → List ℕ) → IsLinkedOf layer text_ten text_twenty s
     → (text : List ℕ) × (new.sink.text ≡ append_known old.sink.text text)
-    × AddersShown (environment_of rows old) (booted s rows) (start_state session s rows before) (steps_before session.start (booted s rows)) (length rows.lines) session.turns session.steps
+    × AddersShown (environment_of rows old) (booted s rows) (start_state session s rows before) (steps_before session.start (booted s rows))
+    (length rows.lines) session.turns session.steps
     (first_flat (image_words (adder 10))) (first_flat (image_words (adder 20))) status text
 
 -- THE STEPS in numbers: with 20 pages for each user, 48 frames and no busy times, so many for L `line` rows, before those of a ROM

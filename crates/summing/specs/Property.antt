@@ -79,7 +79,8 @@ machine_of true most t f = after (suc most) f
 machine_of false most t f = after t f
 
 -- WHAT IS SO after k turns: the total is the sum of what those who have called brought; each machine is after its own steps, whatever the other did and
--- whatever lines came (f and g are their machines at the start); each turn was the first, a step, a call or lines that were taken; and the system has halted exactly where both have called
+-- whatever lines came (f and g are their machines at the start); each turn was the first, a step, a call or lines that were taken; and the system has halted
+-- exactly where both have called
 pub record IsSum (y : System) (m n v w : ℕ) (f g : Flat) (k : ℕ) (past : List Dispatch) (c : Core) : Type 0 where
   pub phase : Phase
   pub one : ℕ
@@ -101,4 +102,6 @@ Sums y m n v w f g k past c = IsSum y m n v w f g k past c × UsePages y 100 0 p
 -- THE THEOREM: whatever lines are raised, each turn ends within 100 units of its dispatch, and each state from the first turn on is such
 abbrev pub SumsAreRight : Type 0
 SumsAreRight = (y : System) (m n v w : ℕ) (r : RunsSumming y m n v w) (lines : ℕ → ℕ) → HasEight lines → (k : ℕ)
-    → ((c : Cvm) × (cvm y lines 100 k ≡ Some c)) × ((c : Cvm) → IsCvm y lines (suc k) c → SystemHolds (HasUsers y) (Sums y m n v w (first_flat r.one) (first_flat r.two)) (suc k) (dispatches_of y lines 100 (suc k)) c)
+    → ((c : Cvm) × (cvm y lines 100 k ≡ Some c))
+    × ((c : Cvm) → IsCvm y lines (suc k) c
+    → SystemHolds (HasUsers y) (Sums y m n v w (first_flat r.one) (first_flat r.two)) (suc k) (dispatches_of y lines 100 (suc k)) c)

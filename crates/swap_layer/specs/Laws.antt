@@ -67,11 +67,13 @@ SwapsOut w = (b : ℕ) → HasDisk w b → WritesFrames w swap_out_code (b + 269
 
 -- a sector comes into the buffer
 abbrev pub FetchesSector : World → Type 0
-FetchesSector w = (b s : ℕ) (c : Contents) (d : Behind) → HasDisk w b → c.regs PAGE ≡ s → s < w.count → d.pending ≡ Idle → From w read_sector_code (b + 8) c d (SectorFetched s c d)
+FetchesSector w = (b s : ℕ) (c : Contents) (d : Behind) → HasDisk w b → c.regs PAGE ≡ s → s < w.count → d.pending ≡ Idle
+    → From w read_sector_code (b + 8) c d (SectorFetched s c d)
 
 -- words of memory, or of the buffer, come into a frame
 abbrev pub FillsFrame : World → Type 0
-FillsFrame w = (b a g : ℕ) (c : Contents) (d : Behind) → HasDisk w b → c.regs SOURCE ≡ 4 * a → c.regs VICTIM_AT ≡ 4096 * g → MayFill w g → IsFrameOrBuffer w a → (a + 1024 ≤ 1024 * g) ⊎ (1024 * g + 1024 ≤ a) → d.pending ≡ Idle
+FillsFrame w = (b a g : ℕ) (c : Contents) (d : Behind) → HasDisk w b → c.regs SOURCE ≡ 4 * a → c.regs VICTIM_AT ≡ 4096 * g → MayFill w g → IsFrameOrBuffer w a
+    → (a + 1024 ≤ 1024 * g) ⊎ (1024 * g + 1024 ≤ a) → d.pending ≡ Idle
     → From w copy_to_frame_code 2691 c d (WordsMoved a (1024 * g) c d)
 
 -- a sector comes to a frame

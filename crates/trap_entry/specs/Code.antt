@@ -63,4 +63,6 @@ exit_with_code power = Addiu T0 ZERO power ∷ Sw T0 ZERO POWER ∷ []
 
 -- LEAVE: the answer of `dispatch`, in ANSWER, is 0, a user's number, or neither
 abbrev pub act_on_answer_code : TableLayout → (users per : ℕ) → List Inst
-act_on_answer_code p users per = (Sltiu T0 ANSWER 1 ∷ []) ++ (when_code T0 (Sw ZERO ZERO POWER ∷ []) ++ ((Addiu T1 ANSWER (minus 1) ∷ Sltiu T1 T1 users ∷ []) ++ (when_code T1 (return_to_user_code p per ++ Eret ∷ []) ++ exit_with_code BAD_USER)))
+act_on_answer_code p users per = (Sltiu T0 ANSWER 1 ∷ [])
+    ++ (when_code T0 (Sw ZERO ZERO POWER ∷ [])
+    ++ ((Addiu T1 ANSWER (minus 1) ∷ Sltiu T1 T1 users ∷ []) ++ (when_code T1 (return_to_user_code p per ++ Eret ∷ []) ++ exit_with_code BAD_USER)))

@@ -69,8 +69,10 @@ fault_eret_at n p page = n + length save_and_classify_code + 1 + length (handle_
 
 -- HANDLED FAULT: from its start the handler comes to the eret, in a swap for each page that names the frame at the hand, one more, and 85 steps
 abbrev pub HandlesFaults : World → Type 0
-HandlesFaults w = (p : TableLayout) (b : ℕ) (page : PageBlock w p b) (v : Pages) (base e n : ℕ) (c : Contents) (d : Behind) → Sited p w → Ported p w b → MaySave w → CodeAt w n (handler_code p page.code) → IsHandled (c.special ECA) e (c.special PTL) → FaultAsked p v base e c d
-    → RunComesTo w (swap_steps p b c.memory + 85) n (fault_eret_at n p page.code) Eret c d (FaultDone p v (base + e / 4096) c d) × (swap_steps p b c.memory ≤ fault_steps b)
+HandlesFaults w = (p : TableLayout) (b : ℕ) (page : PageBlock w p b) (v : Pages) (base e n : ℕ) (c : Contents) (d : Behind) → Sited p w → Ported p w b
+    → MaySave w → CodeAt w n (handler_code p page.code) → IsHandled (c.special ECA) e (c.special PTL) → FaultAsked p v base e c d
+    → RunComesTo w (swap_steps p b c.memory + 85) n (fault_eret_at n p page.code) Eret c d (FaultDone p v (base + e / 4096) c d)
+    × (swap_steps p b c.memory ≤ fault_steps b)
 
 -- `dispatch` is called for the current user, which is saved
 pub record UserEntered (u : ℕ) (c0 : Contents) (d0 : Behind) (c : Contents) (d : Behind) : Type 0 where
@@ -100,12 +102,15 @@ pub record ResetEntered (c0 : Contents) (d0 : Behind) (c : Contents) (d : Behind
 
 -- ENTER, from a user: all interrupts but handled faults lead to the kernel's first word
 abbrev pub EntersKernel : World → Type 0
-EntersKernel w = (p : TableLayout) (page : List Inst) (u n : ℕ) (c : Contents) (d : Behind) → length page ≤ 1000 → MaySave w → MayKeep w u → IsCurrent w u c → CodeAt w n (handler_code p page) → c.special ECA < 2 ^ 32 → c.special ECA ≢ cause_number Reset
-    → (IsHandled (c.special ECA) (c.special EDATA) (c.special PTL) → ⊥) → d.pending ≡ Idle → (c' : Contents) × (d' : Behind) × UserEntered u c d c' d' × Reaches w 124 (at_with n c d) (at_with layer_words c' d')
+EntersKernel w = (p : TableLayout) (page : List Inst) (u n : ℕ) (c : Contents) (d : Behind) → length page ≤ 1000 → MaySave w → MayKeep w u → IsCurrent w u c
+    → CodeAt w n (handler_code p page) → c.special ECA < 2 ^ 32 → c.special ECA ≢ cause_number Reset
+    → (IsHandled (c.special ECA) (c.special EDATA) (c.special PTL) → ⊥) → d.pending ≡ Idle → (c' : Contents) × (d' : Behind) × UserEntered u c d c' d'
+    × Reaches w 124 (at_with n c d) (at_with layer_words c' d')
 
 -- ENTER, after the reset
 abbrev pub ResetEnters : World → Type 0
-ResetEnters w = (p : TableLayout) (page : List Inst) (n : ℕ) (c : Contents) (d : Behind) → length page ≤ 1000 → w.system ≡ true → HasSaveArea w → MaySave w → CodeAt w n (handler_code p page) → c.special ECA ≡ cause_number Reset → d.pending ≡ Idle
+ResetEnters w = (p : TableLayout) (page : List Inst) (n : ℕ) (c : Contents) (d : Behind) → length page ≤ 1000 → w.system ≡ true → HasSaveArea w → MaySave w
+    → CodeAt w n (handler_code p page) → c.special ECA ≡ cause_number Reset → d.pending ≡ Idle
     → (c' : Contents) × (d' : Behind) × ResetEntered c d c' d' × Reaches w 51 (at_with n c d) (at_with layer_words c' d')
 
 -- user u goes on behind the eret: it is the current one, and the processor is as its control block says
@@ -147,17 +152,20 @@ pub record PassedOver (c0 : Contents) (d0 : Behind) (c : Contents) (d : Behind) 
 
 -- LEAVE, to user u: in 67 steps to the eret
 abbrev pub LeavesToUser : World → Type 0
-LeavesToUser w = (p : TableLayout) (users per u n : ℕ) (c : Contents) (d : Behind) → MayGo w p users per u → CodeAt w n (act_on_answer_code p users per) → c.regs ANSWER ≡ u → d.pending ≡ Idle
+LeavesToUser w = (p : TableLayout) (users per u n : ℕ) (c : Contents) (d : Behind) → MayGo w p users per u → CodeAt w n (act_on_answer_code p users per)
+    → c.regs ANSWER ≡ u → d.pending ≡ Idle
     → RunComesTo w 67 n (n + 6 + length (return_to_user_code p per)) Eret c d (UserReady p per u c d)
 
 -- LEAVE, with the answer 0: in 2 steps to the store of a 0 to the power port
 abbrev pub LeavesForGood : World → Type 0
-LeavesForGood w = (p : TableLayout) (users per n : ℕ) (c : Contents) (d : Behind) → CodeAt w n (act_on_answer_code p users per) → c.regs ANSWER ≡ 0 → d.pending ≡ Idle
+LeavesForGood w = (p : TableLayout) (users per n : ℕ) (c : Contents) (d : Behind) → CodeAt w n (act_on_answer_code p users per)
+    → c.regs ANSWER ≡ 0 → d.pending ≡ Idle
     → RunComesTo w 2 n (n + 2) (Sw ZERO ZERO POWER) c d (PassedOver c d)
 
 -- LEAVE, with no user's number: in 6 steps to the store of BAD_USER
 abbrev pub LeavesBadly : World → Type 0
-LeavesBadly w = (p : TableLayout) (users per n : ℕ) (c : Contents) (d : Behind) → users ≤ 64 → CodeAt w n (act_on_answer_code p users per) → users < c.regs ANSWER → c.regs ANSWER < 2 ^ 32 → d.pending ≡ Idle
+LeavesBadly w = (p : TableLayout) (users per n : ℕ) (c : Contents) (d : Behind) → users ≤ 64 → CodeAt w n (act_on_answer_code p users per)
+    → users < c.regs ANSWER → c.regs ANSWER < 2 ^ 32 → d.pending ≡ Idle
     → RunComesTo w 6 n (n + 8 + length (return_to_user_code p per)) (Sw T0 ZERO POWER) c d (λ c' d'. PassedOver c d c' d' × (c'.regs T0 ≡ BAD_USER))
 
 -- FAULT EXIT: in one step to the store of the fault's power word

@@ -31,5 +31,6 @@ last_answer a (b ∷ rest) = last_answer b rest
 -- A LAW: it asks 0 and then each of its answers, within 10 units for each of them and 20 more; so each of its traps, for ever, is a call with the last answer
 pub record EchoesForEver : Type 0 where
   pub asks : (given : List ℤ) → (prog echoing given (10 * length given + 20)).arguments ≡ pos 0 ∷ given
-  pub traps : (u : CUnit) (es : List Event) (f g : Flat) (cause : Cause) (edata : ℕ) → IsProgram u → bare u ≡ echoing → UserHasCome u es f → vstep f ≡ Trap g cause edata
+  pub traps : (u : CUnit) (es : List Event) (f g : Flat) (cause : Cause) (edata : ℕ) → IsProgram u → bare u ≡ echoing → UserHasCome u es f
+      → vstep f ≡ Trap g cause edata
       → IsTrapCall f (last_answer (pos 0) (answers es)) (cause_number cause) edata

@@ -3,7 +3,8 @@ use Rattle.std.specs.Prelude.{◌≡◌, ℕ, ℤ, ◌+◌, ◌*◌, ◌≤◌, 
 use Rattle.mips_table.specs.declared.inst.Inst.TheVariants.{Jal}
 use Rattle.mips_table.specs.Code.{Contents, Behind, CodeState, at_with, Program, on_flat, Sound, Steps}
 use Rattle.mips_table.specs.Simulation.{nothing_behind}
-use Rattle.layer_map.specs.Map.{layer_words, next_page, heap_used_at, heap_words_at, heap_first_at, stack_first_at, stack_limit_at, primitives_at, exits_at, leave_at}
+use Rattle.layer_map.specs.Map.{layer_words, next_page, heap_used_at, heap_words_at, heap_first_at}
+use Rattle.layer_map.specs.Map.{stack_first_at, stack_limit_at, primitives_at, exits_at, leave_at}
 use Rattle.c0_tree.specs.declared.primitive.Program.TheVariants.{User}
 use Rattle.c0_tree.specs.Primitives.{user_primitives}
 use Rattle.c0_tree.specs.Tree.{CUnit}

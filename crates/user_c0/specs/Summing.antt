@@ -25,7 +25,8 @@ summing = record {
   structs = [];
   globals = [];
   functions =
-      function tree.int (codes "main") 0 [] (code (decl tree.int (codes "i") Local 0 ∷ decl tree.int (codes "s") Local 1 ∷ decl tree.int (codes "a") Local 2 ∷ []) (block (
+      function tree.int (codes "main") 0 []
+      (code (decl tree.int (codes "i") Local 0 ∷ decl tree.int (codes "s") Local 1 ∷ decl tree.int (codes "a") Local 2 ∷ []) (block (
       assign z (local (codes "i") 0) (number 0) ∷
       assign z (local (codes "s") 1) (number 0) ∷
       loop z (binary z Lt (local (codes "i") 0) (number 10)) (block (
@@ -56,6 +57,8 @@ pub record SumsAreTold : Type 0 where
 -- A LAW: in every system in which a user runs it and its calls are answered so far, whatever the kernel, the other users and the lines are, its next trap is
 -- so: the first finds 55 in register 4
 abbrev pub SumsAreToldInSystems : Type 0
-SumsAreToldInSystems = (y : System) (lines : ℕ → ℕ) (units turns n : ℕ) (c : Cvm) (u : CUnit) → IsSumming u → KernelReplays y.boot.meaning → 1 ≤ n → n ≤ length y.boot.users → RunsProgram y n u
-    → cvm y lines units turns ≡ Some c → (a : IsAnsweredJournal (journal y lines units n turns)) → (g : Flat) (cause : Cause) (edata : ℕ) → vstep (user_of c.core.users n) ≡ Trap g cause edata
+SumsAreToldInSystems = (y : System) (lines : ℕ → ℕ) (units turns n : ℕ) (c : Cvm) (u : CUnit) → IsSumming u → KernelReplays y.boot.meaning → 1 ≤ n
+    → n ≤ length y.boot.users → RunsProgram y n u
+    → cvm y lines units turns ≡ Some c → (a : IsAnsweredJournal (journal y lines units n turns)) → (g : Flat) (cause : Cause) (edata : ℕ)
+    → vstep (user_of c.core.users n) ≡ Trap g cause edata
     → SumTrap (call_count a.events) (user_of c.core.users n) (cause_number cause) edata

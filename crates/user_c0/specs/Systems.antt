@@ -19,12 +19,14 @@ RunsProgram y n u = slice_get y.boot.users (n - 1) ≡ Some (image_words u)
 -- lines are
 pub record UsersCome : Type 0 where
   pub first : (y : System) (n : ℕ) (u : CUnit) → RunsProgram y n u → UserHasCome u [] (user_of (first_core y).users n)
-  pub come : (y : System) (lines : ℕ → ℕ) (units turns n : ℕ) (c : Cvm) (u : CUnit) → KernelReplays y.boot.meaning → 1 ≤ n → n ≤ length y.boot.users → RunsProgram y n u
+  pub come : (y : System) (lines : ℕ → ℕ) (units turns n : ℕ) (c : Cvm) (u : CUnit) → KernelReplays y.boot.meaning → 1 ≤ n
+      → n ≤ length y.boot.users → RunsProgram y n u
       → cvm y lines units turns ≡ Some c → (a : IsAnsweredJournal (journal y lines units n turns)) → UserHasCome u a.events (user_of c.core.users n)
 
 -- A LAW: a journal that is made of steps, calls with what they were answered, and other traps is answered where registers are set to words; and so it is in
 -- each run of a system. So whether a kernel answers a user says the form of the user's journal alone.
 pub record JournalsAreAnswered : Type 0 where
   pub answered : (j : List JournalEntry) (es : List Event) → j ≡ journal_of es → IsTrue (list_all holds_word j) → IsAnsweredJournal j
-  pub in_runs : (y : System) (kernel : CUnit) → IsOrdinary y kernel → (lines : ℕ → ℕ) (units turns n : ℕ) (es : List Event) → journal y lines units n turns ≡ journal_of es
+  pub in_runs : (y : System) (kernel : CUnit) → IsOrdinary y kernel → (lines : ℕ → ℕ) (units turns n : ℕ) (es : List Event)
+      → journal y lines units n turns ≡ journal_of es
       → IsAnsweredJournal (journal y lines units n turns)

@@ -37,7 +37,8 @@ pub record UsersGoOn : Type 0 where
   pub answered : (u : CUnit) (es : List Event) (f g : Flat) (x : ℕ) → x < 2 ^ 32 → UserHasCome u es f → vstep f ≡ Trap g causes.Syscall CALL_CAUSE
       → UserHasCome u (es ++ call (Some x) ∷ []) (with_register g ANSWER x)
   -- any other trap
-  pub others : (u : CUnit) (es : List Event) (f g : Flat) (cause : Cause) (edata : ℕ) → (cause_number cause ≡ SYSCALL → edata ≡ CALL_CAUSE → ⊥) → UserHasCome u es f → vstep f ≡ Trap g cause edata
+  pub others : (u : CUnit) (es : List Event) (f g : Flat) (cause : Cause) (edata : ℕ) → (cause_number cause ≡ SYSCALL → edata ≡ CALL_CAUSE → ⊥)
+      → UserHasCome u es f → vstep f ≡ Trap g cause edata
       → UserHasCome u (es ++ other (cause_number cause) edata ∷ []) g
 
 -- A LAW: what a kernel in C0 answers by an int is a word, and the program is told that int
@@ -95,4 +96,5 @@ IsDue u es n = (call_count es < length (prog u (answers es) n).arguments) ⊎ Ha
 pub record ProgramsStay : Type 0 where
   pub stay : (u : CUnit) (es : List Event) (f g : Flat) (n : ℕ) → IsProgram u → UserHasCome u es f → vstep f ≡ Goes g → others es ≡ [] → IsDue u es n
       → suc (untrapped es) ≤ steps_of n
-  pub again : (u : CUnit) (es : List Event) (f g : Flat) (cause edata : ℕ) → IsProgram u → UserHasCome u (es ++ other cause edata ∷ step ∷ []) f → vstep f ≡ Goes g → ⊥
+  pub again : (u : CUnit) (es : List Event) (f g : Flat) (cause edata : ℕ) → IsProgram u
+      → UserHasCome u (es ++ other cause edata ∷ step ∷ []) f → vstep f ≡ Goes g → ⊥

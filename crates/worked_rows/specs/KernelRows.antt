@@ -10,9 +10,11 @@ use Rattle.c0_meaning.specs.State.{first_state}
 use Rattle.c0_meaning.specs.Operators.{Failure, NullUse, Bounds, DivZero, StackOut, faulted}
 use Rattle.c0_meaning.specs.World.{PrimitiveMeaning, Setting, Cost, Configuration, journal_so_far}
 use Rattle.c0_meaning.specs.Execution.{Outcome, Done, Failed, NotYet, exec, dispatch}
-use Rattle.worked_rows.specs.Kernels.{z, global, number, block, sums, divisions, by_zero, small_heap, recursion, bounds, null_use, nexts, counting_kernel, scheduler, asm_sum, list, endless, order, parts_kernel, twice, thrice, inverse}
+use Rattle.worked_rows.specs.Kernels.{z, global, number, block, sums, divisions, by_zero, small_heap, recursion, bounds, null_use}
+use Rattle.worked_rows.specs.Kernels.{nexts, counting_kernel, scheduler, asm_sum, list, endless, order, parts_kernel, twice, thrice, inverse}
 use Rattle.c0_meaning.specs.PrimitiveCalls.{PrimitiveCall}
-use Rattle.worked_rows.specs.SystemKernels.{returning_kernel, overflow, line_kernel, copies, copies_twice, probes, resizes, divides, console_kernel, waiting_kernel}
+use Rattle.worked_rows.specs.SystemKernels.{returning_kernel, overflow, line_kernel, copies, copies_twice}
+use Rattle.worked_rows.specs.SystemKernels.{probes, resizes, divides, console_kernel, waiting_kernel}
 use Rattle.c0_meaning.specs.RunLaws.{stands_at}
 use Rattle.c0_meaning.specs.TypedState.{AnswersFit}
 use Rattle.c0_meaning.specs.UserProgram.{prog}
@@ -28,7 +30,13 @@ seven Boolean = bool true
 
 -- primitives that count and note their calls: those that answer an int answer 7, the others true; each touches one page and one word
 abbrev pub sevens : PrimitiveMeaning ℕ PrimitiveCall
-sevens n args calls = record { answer = seven (unwrap_or (option_map (λ row. row.answer) (slice_get kernel_primitives n)) Int); world = calls + 1; entries = record { number = n; args = args } ∷ []; pages = 1; words = 1 }
+sevens n args calls = record {
+  answer = seven (unwrap_or (option_map (λ row. row.answer) (slice_get kernel_primitives n)) Int);
+  world = calls + 1;
+  entries = record { number = n; args = args } ∷ [];
+  pages = 1;
+  words = 1;
+}
 
 -- how a run ended
 pub data KernelEnding : Type 0 where
@@ -47,7 +55,14 @@ pub record Sight : Type 0 where
 
 -- what is looked at in a configuration
 abbrev pub sight : KernelEnding → Cost → Configuration ℕ PrimitiveCall → Sight
-sight e k c = record { ending = e; globals = c.state.global_values; objects = c.state.heap_values; heap_words = c.state.heap_words; journal = journal_so_far c; cost = k }
+sight e k c = record {
+  ending = e;
+  globals = c.state.global_values;
+  objects = c.state.heap_values;
+  heap_words = c.state.heap_words;
+  journal = journal_so_far c;
+  cost = k;
+}
 
 -- what is seen of an outcome
 abbrev pub sight_of : Outcome ℕ PrimitiveCall → Sight
@@ -91,11 +106,19 @@ to_object path = at (record { region = heap; path = path })
 
 -- a sight with neither heap nor journal
 abbrev pub shows : KernelEnding → List Value → ℕ → Sight
-shows e gs own = record { ending = e; globals = these gs; objects = these []; heap_words = 0; journal = []; cost = record { own = own; primitive = 0; pages = 0 } }
+shows e gs own = record {
+  ending = e;
+  globals = these gs;
+  objects = these [];
+  heap_words = 0;
+  journal = [];
+  cost = record { own = own; primitive = 0; pages = 0 };
+}
 
 -- a sight without a journal
 abbrev pub shows_objects : KernelEnding → List Value → List Value → ℕ → ℕ → Sight
-shows_objects e gs objects used own = record { ending = e; globals = these gs; objects = these objects; heap_words = used; journal = []; cost = record { own = own; primitive = 0; pages = 0 } }
+shows_objects e gs objects used own =
+    record { ending = e; globals = these gs; objects = these objects; heap_words = used; journal = []; cost = record { own = own; primitive = 0; pages = 0 } }
 
 -- the answer of an int from 0 on
 abbrev pub answered_int : ℕ → KernelEnding
@@ -106,12 +129,16 @@ pub record AreRunsRight : Type 0 where
   pub sums_wrap : comes sums 64 256 0 0 0 1000 ≡ shows (answered_int 0) (negative_int 2147483648 ∷ negative_int 2147483648 ∷ []) 20
   pub truncates : comes divisions 64 256 0 0 0 1000 ≡ shows (answered_int 0) (negative_int 2147483648 ∷ plain 0 ∷ negative_int 3 ∷ negative_int 1 ∷ []) 32
   pub division_by_zero : comes by_zero 64 256 0 0 0 1000 ≡ shows (failed (faulted DivZero)) (plain 1 ∷ []) 10
-  pub heap_is_full : comes small_heap 3 256 0 0 0 1000 ≡ shows_objects (answered_int 0) (to_object (0 ∷ []) ∷ to_object (1 ∷ []) ∷ null ∷ []) (these (plain 0 ∷ plain 0 ∷ []) ∷ plain 0 ∷ []) 3 11
-  pub heap_has_room : comes small_heap 4 256 0 0 0 1000 ≡ shows_objects (answered_int 0) (to_object (0 ∷ []) ∷ to_object (1 ∷ []) ∷ to_object (2 ∷ []) ∷ []) (these (plain 0 ∷ plain 0 ∷ []) ∷ plain 0 ∷ plain 0 ∷ []) 4 12
+  pub heap_is_full : comes small_heap 3 256 0 0 0 1000
+      ≡ shows_objects (answered_int 0) (to_object (0 ∷ []) ∷ to_object (1 ∷ []) ∷ null ∷ []) (these (plain 0 ∷ plain 0 ∷ []) ∷ plain 0 ∷ []) 3 11
+  pub heap_has_room : comes small_heap 4 256 0 0 0 1000 ≡ shows_objects (answered_int 0) (to_object (0 ∷ []) ∷ to_object (1 ∷ []) ∷ to_object (2 ∷ []) ∷ [])
+      (these (plain 0 ∷ plain 0 ∷ []) ∷ plain 0 ∷ plain 0 ∷ []) 4 12
   pub stack_is_enough : comes recursion 64 66 0 0 0 1000 ≡ shows (answered_int 0) (plain 0 ∷ []) 147
   pub stack_is_out : comes recursion 64 65 0 0 0 1000 ≡ shows (failed (faulted StackOut)) (plain 0 ∷ []) 114
-  pub index_is_out : comes bounds 64 256 0 0 0 1000 ≡ shows (failed (faulted Bounds)) (these (plain 0 ∷ plain 0 ∷ plain 0 ∷ plain 9 ∷ []) ∷ to_global (0 ∷ 3 ∷ []) ∷ plain 4 ∷ []) 26
-  pub null_is_used : comes null_use 64 256 0 0 0 1000 ≡ shows (failed (faulted NullUse)) (these (plain 0 ∷ plain 0 ∷ plain 0 ∷ plain 0 ∷ []) ∷ null ∷ plain 0 ∷ []) 4
+  pub index_is_out : comes bounds 64 256 0 0 0 1000
+      ≡ shows (failed (faulted Bounds)) (these (plain 0 ∷ plain 0 ∷ plain 0 ∷ plain 9 ∷ []) ∷ to_global (0 ∷ 3 ∷ []) ∷ plain 4 ∷ []) 26
+  pub null_is_used : comes null_use 64 256 0 0 0 1000
+      ≡ shows (failed (faulted NullUse)) (these (plain 0 ∷ plain 0 ∷ plain 0 ∷ plain 0 ∷ []) ∷ null ∷ plain 0 ∷ []) 4
   pub first_next : comes nexts 64 256 0 0 0 1000 ≡ shows (answered_int 1) [] 10
   pub halts : comes nexts 64 256 3 0 1 1000 ≡ shows (answered_int 0) [] 7
   pub counted : comes counting_kernel 64 256 3 0 1 1000 ≡ shows (answered_int 1) (plain 1 ∷ []) 19
@@ -134,8 +161,12 @@ pub record AreRunsRight : Type 0 where
     cost = record { own = 30; primitive = 3; pages = 1 };
   }
   pub objects : comes list 9 256 0 0 0 1000 ≡ shows_objects (answered_int 32) (to_object (2 ∷ []) ∷ bool true ∷ bool true ∷ plain 32 ∷ [])
-      (these (these (plain 1 ∷ plain 0 ∷ []) ∷ null ∷ []) ∷ these (these (plain 0 ∷ plain 2 ∷ []) ∷ to_object (0 ∷ []) ∷ []) ∷ these (these (plain 3 ∷ plain 0 ∷ []) ∷ to_object (1 ∷ []) ∷ []) ∷ []) 9 145
-  pub statements_alone : sight_of (exec (record { unit = sums; heap = 64; stack = 256; meaning = sevens }) 5 (block (assign z (global (codes "x") 0) (binary z Sub (number 2) (number 5)) ∷ [])) (first_state sums) 0) ≡ shows (answered None) (negative_int 3 ∷ plain 0 ∷ []) 5
+      (these (these (plain 1 ∷ plain 0 ∷ []) ∷ null ∷ []) ∷ these (these (plain 0 ∷ plain 2 ∷ []) ∷ to_object (0 ∷ []) ∷ [])
+      ∷ these (these (plain 3 ∷ plain 0 ∷ []) ∷ to_object (1 ∷ []) ∷ []) ∷ []) 9 145
+  pub statements_alone : sight_of
+      (exec (record { unit = sums; heap = 64; stack = 256; meaning = sevens }) 5
+      (block (assign z (global (codes "x") 0) (binary z Sub (number 2) (number 5)) ∷ [])) (first_state sums) 0)
+      ≡ shows (answered None) (negative_int 3 ∷ plain 0 ∷ []) 5
   pub never_ends : comes endless 64 256 0 0 0 100 ≡ shows not_yet [] 100
 
 -- the order of evaluation, by the fault that comes first, and what was done before it
@@ -213,14 +244,23 @@ pub record ArePartsRight : Type 0 where
   pub outer_is_out : (comes parts_kernel 64 256 3 3 0 1000).ending ≡ failed (faulted Bounds)
   pub inner_divides : (comes parts_kernel 64 256 3 2 0 1000).ending ≡ failed (faulted DivZero)
   pub part_of_null : (comes parts_kernel 64 256 4 0 0 1000).ending ≡ failed (faulted NullUse)
-  pub once : comes parts_kernel 64 256 5 0 0 1000 ≡ shows_objects (answered_int 1) (variables (to_object (0 ∷ [])) (to_object (0 ∷ 1 ∷ [])) unset 0) (two 0 1 ∷ []) 2 57
-  pub again : comes_again parts_kernel 64 256 5 0 0 5 0 0 1000 ≡ shows_objects (answered_int 2) (variables (to_object (0 ∷ [])) (to_object (0 ∷ 1 ∷ [])) unset 0) (two 0 2 ∷ []) 2 53
+  pub once : comes parts_kernel 64 256 5 0 0 1000
+      ≡ shows_objects (answered_int 1) (variables (to_object (0 ∷ [])) (to_object (0 ∷ 1 ∷ [])) unset 0) (two 0 1 ∷ []) 2 57
+  pub again : comes_again parts_kernel 64 256 5 0 0 5 0 0 1000
+      ≡ shows_objects (answered_int 2) (variables (to_object (0 ∷ [])) (to_object (0 ∷ 1 ∷ [])) unset 0) (two 0 2 ∷ []) 2 53
   pub counted_twice : comes_again counting_kernel 64 256 3 0 1 3 0 1 1000 ≡ shows (answered_int 0) (plain 2 ∷ []) 22
 
 -- a sight of calls of primitives, each of which is three units and a page, and of no heap
 abbrev pub shows_calls : KernelEnding → List Value → List PrimitiveCall → ℕ → Sight
 shows_calls e gs calls own =
-    record { ending = e; globals = these gs; objects = these []; heap_words = 0; journal = calls; cost = record { own = own; primitive = 3 * length calls; pages = length calls } }
+    record {
+      ending = e;
+      globals = these gs;
+      objects = these [];
+      heap_words = 0;
+      journal = calls;
+      cost = record { own = own; primitive = 3 * length calls; pages = length calls };
+    }
 
 -- Kernels of small systems: what they ask of users and console, and in which order. A kernel may answer what is no user: that is no fault
 -- of C0.
@@ -229,19 +269,26 @@ pub record AreSystemsRight : Type 0 where
   pub no_such_user : comes (returning_kernel (number 5)) 64 256 0 0 0 1000 ≡ shows (answered_int 5) [] 2
   pub below_all_users : comes (returning_kernel (unary z Negate (number 1))) 64 256 0 0 0 1000 ≡ shows (answered (Some (negative_int 1))) [] 3
   pub starts_a_user : comes overflow 64 256 0 0 0 1000 ≡ shows (answered_int 1) (plain 0 ∷ plain 0 ∷ []) 10
-  pub sees_an_overflow : comes overflow 64 256 5 539099137 1 1000 ≡ shows_calls (answered_int 0) (plain 7 ∷ plain 7 ∷ []) (primitive_asked 0 (plain 1 ∷ plain 32 ∷ []) ∷ primitive_asked 0 (plain 1 ∷ plain 2 ∷ []) ∷ []) 21
+  pub sees_an_overflow : comes overflow 64 256 5 539099137 1 1000
+      ≡ shows_calls (answered_int 0) (plain 7 ∷ plain 7 ∷ []) (primitive_asked 0 (plain 1 ∷ plain 32 ∷ []) ∷ primitive_asked 0 (plain 1 ∷ plain 2 ∷ []) ∷ []) 21
   pub takes_two_lines : comes_again line_kernel 64 256 1 2 1 1 4 1 1000 ≡ shows (answered_int 0) (plain 2 ∷ plain 20 ∷ []) 29
-  pub grows_and_copies : comes copies 64 256 0 0 0 1000 ≡ shows_calls (answered_int 1) (bool true ∷ []) (primitive_asked 3 (plain 1 ∷ plain 2 ∷ []) ∷ primitive_asked 6 (plain 1 ∷ plain 0 ∷ plain 1 ∷ plain 4096 ∷ plain 1024 ∷ []) ∷ []) 21
+  pub grows_and_copies : comes copies 64 256 0 0 0 1000
+      ≡ shows_calls (answered_int 1) (bool true ∷ []) (primitive_asked 3 (plain 1 ∷ plain 2 ∷ [])
+      ∷ primitive_asked 6 (plain 1 ∷ plain 0 ∷ plain 1 ∷ plain 4096 ∷ plain 1024 ∷ []) ∷ []) 21
   pub copies_between_users : comes copies_twice 64 256 0 0 0 1000 ≡ shows_calls (answered_int 0) (bool true ∷ bool true ∷ [])
-      (primitive_asked 6 (plain 1 ∷ plain 4088 ∷ plain 2 ∷ plain 0 ∷ plain 4 ∷ []) ∷ primitive_asked 6 (plain 1 ∷ plain 4088 ∷ plain 1 ∷ plain 4096 ∷ plain 4 ∷ []) ∷ []) 16
+      (primitive_asked 6 (plain 1 ∷ plain 4088 ∷ plain 2 ∷ plain 0 ∷ plain 4 ∷ [])
+      ∷ primitive_asked 6 (plain 1 ∷ plain 4088 ∷ plain 1 ∷ plain 4096 ∷ plain 4 ∷ []) ∷ []) 16
   pub asks_in_order : comes probes 64 256 0 0 0 1000 ≡ shows_calls (answered_int 0) (plain 7 ∷ plain 7 ∷ bool true ∷ bool true ∷ [])
       (primitive_asked 0 (plain 9 ∷ plain 1 ∷ []) ∷ primitive_asked 4 (plain 1 ∷ plain 2 ∷ []) ∷ primitive_asked 1 (plain 1 ∷ plain 0 ∷ plain 5 ∷ [])
       ∷ primitive_asked 3 (plain 1 ∷ plain 5 ∷ []) ∷ primitive_asked 3 (plain 1 ∷ plain 0 ∷ []) ∷ primitive_asked 3 (plain 1 ∷ plain 1 ∷ []) ∷ []) 27
   pub grows : comes (resizes 4) 64 256 0 0 0 1000 ≡ shows_calls (answered_int 1) (bool true ∷ []) (primitive_asked 3 (plain 1 ∷ plain 4 ∷ []) ∷ []) 14
   pub divides_at_start : comes divides 64 256 0 0 0 1000 ≡ shows (answered_int 1) (plain 33 ∷ []) 17
   pub divides_at_a_call : comes divides 64 256 6 12 1 1000 ≡ shows (answered_int 0) (plain 11 ∷ []) 14
-  pub reads_and_writes : comes console_kernel 64 256 0 0 0 1000 ≡ shows_calls (answered_int 0) (plain 14 ∷ bool true ∷ []) (primitive_asked 8 [] ∷ primitive_asked 8 [] ∷ primitive_asked 7 (plain 14 ∷ []) ∷ primitive_asked 7 (negative_int 1 ∷ []) ∷ []) 20
-  pub leaves_user_3_out : comes waiting_kernel 64 256 1 1 2 1000 ≡ shows (answered_int 1) (plain 0 ∷ these (bool false ∷ bool false ∷ bool false ∷ bool false ∷ []) ∷ []) 97
+  pub reads_and_writes : comes console_kernel 64 256 0 0 0 1000
+      ≡ shows_calls (answered_int 0) (plain 14 ∷ bool true ∷ []) (primitive_asked 8 [] ∷ primitive_asked 8 [] ∷ primitive_asked 7 (plain 14 ∷ [])
+      ∷ primitive_asked 7 (negative_int 1 ∷ []) ∷ []) 20
+  pub leaves_user_3_out : comes waiting_kernel 64 256 1 1 2 1000
+      ≡ shows (answered_int 1) (plain 0 ∷ these (bool false ∷ bool false ∷ bool false ∷ bool false ∷ []) ∷ []) 97
 
 -- user programs: the answers that are left over aren't asked for, and past the last one a program stands
 pub record AreProgramsRight : Type 0 where

@@ -27,7 +27,11 @@ name_at at text = record { text = text; span = from_to at 9; kind = Unresolved; 
 abbrev pub line_structs : List Shape
 line_structs =
     record { text = codes "p"; fields = struct_field (codes "x") int ∷ struct_field (codes "y") int ∷ [] }
-    ∷ record { text = codes "line"; fields = struct_field (codes "ends") (array (named (codes "p")) 2) ∷ struct_field (codes "next") (pointer (named (codes "line"))) ∷ struct_field (codes "on") bool ∷ [] }
+    ∷ record {
+      text = codes "line";
+      fields = struct_field (codes "ends") (array (named (codes "p")) 2)
+          ∷ struct_field (codes "next") (pointer (named (codes "line"))) ∷ struct_field (codes "on") bool ∷ [];
+    }
     ∷ []
 
 -- struct a { struct b[3] x; }; struct b { struct a y; int z; }; struct c { struct a x; int y; };
@@ -64,4 +68,5 @@ pub record AreTypesRight : Type 0 where
 pub record AreNamesRight : Type 0 where
   pub twice : twice_faults [] (name_at 0 (codes "a") ∷ name_at 3 (codes "b") ∷ name_at 6 (codes "a") ∷ []) ≡ fault 21 (from_to 6 9) ∷ []
   pub primitive : twice_faults (codes "vm_get" ∷ []) (name_at 0 (codes "a") ∷ name_at 3 (codes "vm_get") ∷ []) ≡ fault 21 (from_to 3 9) ∷ []
-  pub order : in_source_order (name_at 5 (codes "a") ∷ []) (name_at 0 (codes "b") ∷ name_at 8 (codes "c") ∷ []) ≡ name_at 0 (codes "b") ∷ name_at 5 (codes "a") ∷ name_at 8 (codes "c") ∷ []
+  pub order : in_source_order (name_at 5 (codes "a") ∷ []) (name_at 0 (codes "b") ∷ name_at 8 (codes "c") ∷ []) ≡ name_at 0 (codes "b") ∷ name_at 5 (codes "a")
+      ∷ name_at 8 (codes "c") ∷ []

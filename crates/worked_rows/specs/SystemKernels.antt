@@ -14,7 +14,12 @@ asking place text n args = call z place z (name text Primitive n) args
 -- a kernel of these globals, whose `dispatch` has these locals and statements, and answers an expression
 abbrev pub kernel : List CDecl → List CDecl → List CStmt → CExpr → CUnit
 kernel globals locals statements answer =
-    record { length = 0; structs = []; globals = globals; functions = function tree.int (codes "dispatch") 0 causes (code locals (block statements) answer) ∷ [] }
+    record {
+      length = 0;
+      structs = [];
+      globals = globals;
+      functions = function tree.int (codes "dispatch") 0 causes (code locals (block statements) answer) ∷ [];
+    }
 
 -- the local `next_local`, and a statement that sets it
 abbrev pub next_local : CDecl
@@ -36,7 +41,8 @@ returning_kernel e = kernel [] [] [] e
 abbrev pub overflow : CUnit
 overflow = kernel (decl tree.int (codes "c") Global 0 ∷ decl tree.int (codes "w") Global 1 ∷ []) (next_local ∷ [])
     (set_next 1
-    ∷ choice z (cause_is 5) (block (asking (global (codes "c") 0) (codes "vm_get") 0 (number 1 ∷ number 32 ∷ []) ∷ asking (global (codes "w") 1) (codes "vm_get") 0 (number 1 ∷ number 2 ∷ []) ∷ set_next 0 ∷ [])) done
+    ∷ choice z (cause_is 5) (block (asking (global (codes "c") 0) (codes "vm_get") 0 (number 1 ∷ number 32 ∷ [])
+    ∷ asking (global (codes "w") 1) (codes "vm_get") 0 (number 1 ∷ number 2 ∷ []) ∷ set_next 0 ∷ [])) done
     ∷ []) (local (codes "next") 3)
 
 -- int n; int m; int dispatch(int cause, int data, int user) { int next; next = 1; if (cause == 1) { n = n + 1; m = m * 8 + data; if (n ==
@@ -68,7 +74,8 @@ copies_twice = kernel (decl tree.bool (codes "b") Global 0 ∷ decl tree.bool (c
 -- int g; int w; bool s; bool t; int dispatch(int cause, int data, int user) { g = vm_get(9, 1); w = vm_word(1, 2); s = vm_set(1, 0, 5); t =
 -- vm_resize(1, 5); t = vm_resize(1, 0); t = vm_resize(1, 1); return 0; }
 abbrev pub probes : CUnit
-probes = kernel (decl tree.int (codes "g") Global 0 ∷ decl tree.int (codes "w") Global 1 ∷ decl tree.bool (codes "s") Global 2 ∷ decl tree.bool (codes "t") Global 3 ∷ []) []
+probes = kernel (decl tree.int (codes "g") Global 0 ∷ decl tree.int (codes "w") Global 1 ∷ decl tree.bool (codes "s") Global 2
+    ∷ decl tree.bool (codes "t") Global 3 ∷ []) []
     (asking (global (codes "g") 0) (codes "vm_get") 0 (number 9 ∷ number 1 ∷ [])
     ∷ asking (global (codes "w") 1) (codes "vm_word") 4 (number 1 ∷ number 2 ∷ [])
     ∷ asking (global (codes "s") 2) (codes "vm_set") 1 (number 1 ∷ number 0 ∷ number 5 ∷ [])
@@ -79,7 +86,8 @@ probes = kernel (decl tree.int (codes "g") Global 0 ∷ decl tree.int (codes "w"
 -- bool b; int dispatch(int cause, int data, int user) { int next; if (cause == 0) { b = vm_resize(1, pages); next = 1; } return next; }
 abbrev pub resizes : ℕ → CUnit
 resizes pages = kernel (decl tree.bool (codes "b") Global 0 ∷ []) (next_local ∷ [])
-    (choice z (cause_is 0) (block (asking (global (codes "b") 0) (codes "vm_resize") 3 (number 1 ∷ number pages ∷ []) ∷ set_next 1 ∷ [])) done ∷ []) (local (codes "next") 3)
+    (choice z (cause_is 0) (block (asking (global (codes "b") 0) (codes "vm_resize") 3 (number 1 ∷ number pages ∷ []) ∷ set_next 1 ∷ [])) done ∷ [])
+    (local (codes "next") 3)
 
 -- int x; int dispatch(int cause, int data, int user) { int next; x = 100 / (cause + 3); if (cause == 0) { next = 1; } return next; }
 abbrev pub divides : CUnit
@@ -90,7 +98,8 @@ divides = kernel (decl tree.int (codes "x") Global 0 ∷ []) (next_local ∷ [])
 -- int s; bool b; int dispatch(int cause, int data, int user) { int a; int c; a = con_get(); c = con_get(); s = a + c; b = con_put(s); b =
 -- con_put(-1); return 0; }
 abbrev pub console_kernel : CUnit
-console_kernel = kernel (decl tree.int (codes "s") Global 0 ∷ decl tree.bool (codes "b") Global 1 ∷ []) (decl tree.int (codes "a") Local 3 ∷ decl tree.int (codes "c") Local 4 ∷ [])
+console_kernel = kernel (decl tree.int (codes "s") Global 0 ∷ decl tree.bool (codes "b") Global 1 ∷ []) (decl tree.int (codes "a") Local 3
+    ∷ decl tree.int (codes "c") Local 4 ∷ [])
     (asking (local (codes "a") 3) (codes "con_get") 8 []
     ∷ asking (local (codes "c") 4) (codes "con_get") 8 []
     ∷ assign z (global (codes "s") 0) (binary z Add (local (codes "a") 3) (local (codes "c") 4))
@@ -112,7 +121,8 @@ waiting_kernel = record scheduler { functions = with_last scheduler.functions }
     last =
         choice z (unary z Not (sent 3)) (block (
         pick (local (codes "user") 2)
-        ∷ choice z (binary z And (binary z Eq (local (codes "next") 3) (number 3)) (unary z Not (binary z And (sent 1) (sent 2)))) (block (pick (number 3) ∷ [])) done ∷ [])) done
+        ∷ choice z (binary z And (binary z Eq (local (codes "next") 3) (number 3)) (unary z Not (binary z And (sent 1) (sent 2))))
+        (block (pick (number 3) ∷ [])) done ∷ [])) done
 
     -- the first of two statements, and another one in place of the second
     and_last : tree.CStmts → tree.CStmts

@@ -1,5 +1,6 @@
 -- Worked rows: what the map's functions, primitives, journals and small systems come to.
-use Rattle.std.specs.Prelude.{◌≡◌, ℕ, ◌+◌, ◌*◌, ◌%◌, pos, negsuc, true, false, ◌&&◌, ◌==◌, nat_lt, if◌then◌else◌, List, [], ◌∷◌, ◌++◌, length, map, replicate, take, drop, codes, Option, Some, None, option_map}
+use Rattle.std.specs.Prelude.{◌≡◌, ℕ, ◌+◌, ◌*◌, ◌%◌, pos, negsuc, true, false, ◌&&◌, ◌==◌, nat_lt, if◌then◌else◌, List}
+use Rattle.std.specs.Prelude.{[], ◌∷◌, ◌++◌, length, map, replicate, take, drop, codes, Option, Some, None, option_map}
 use Rattle.c0_tree.specs.declared.tree.UnaryOp.TheVariants.{Negate}
 use Rattle.c0_tree.specs.Tree.{CUnit, unary}
 use Rattle.worked_rows.specs.Kernels.{z, number, divisions, by_zero, small_heap, recursion, bounds, null_use, nexts, scheduler}
@@ -12,11 +13,13 @@ use Rattle.mips_table.specs.Samples.{overflowing}
 use Rattle.layer_map.specs.Samples.{small_params}
 use Rattle.layer_map.specs.Map.{Map, code_at, globals_at, heap_at, stack_at, tables_at, frame_table_at, zero_frame_at, user_frames_at, memory_frames, block_at}
 use Rattle.cvm_model.specs.Kernel.{JournalEntry, Stepped, Trapped, Set, Size, Put}
-use Rattle.cvm_model.specs.Primitives.{KernelCall, VmGet, VmSet, VmSize, VmResize, VmWord, VmPut, VmCopy, ConPut, ConGet, ConLeft, Given, is_good, prim, user_of}
+use Rattle.cvm_model.specs.Primitives.{KernelCall, VmGet, VmSet, VmSize, VmResize, VmWord, VmPut, VmCopy}
+use Rattle.cvm_model.specs.Primitives.{ConPut, ConGet, ConLeft, Given, is_good, prim, user_of}
 use Rattle.cvm_model.specs.Cvm.{System, Halted, Cvm, cvm, page_steps, reset_steps, turn_steps}
 use Rattle.cvm_model.specs.Journal.{replay, journal}
 use Rattle.cvm_model.specs.Text.{boot_text, trace_text, user_text, journal_rows, open_journal_rows}
-use Rattle.worked_rows.specs.Systems.{a_map, console, a_page, no_page, system_with, system_for, two_frames_with, counting_system, storing_user, splitting, paging, three_users_under, sending_user, sending, asking_user, running_past, multiplies}
+use Rattle.worked_rows.specs.Systems.{a_map, console, a_page, no_page, system_with, system_for, two_frames_with, counting_system, storing_user}
+use Rattle.worked_rows.specs.Systems.{splitting, paging, three_users_under, sending_user, sending, asking_user, running_past, multiplies}
 
 -- the first address of each part: code, globals, heap, stack, page tables, frame table, zero frame, user frames; and the frames of memory
 abbrev pub firsts : Map → List ℕ
