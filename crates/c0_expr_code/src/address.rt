@@ -5,6 +5,7 @@ ghost use Rattle.mips_table.specs.Encoding.{InRange};
 ghost use Rattle.c0_expr_code.specs.Code.{high, access_code};
 ghost use Rattle.c0_expr_code.specs.Emit.{Appends, access_inst, far_code, address_view};
 
+use crate::register::Register;
 use crate::word::{emit, is_near, low};
 use masm::registers::SCRATCH;
 use mips_table::{Inst, encode};
@@ -14,7 +15,7 @@ use std::alloc::AllocError;
 #[derive(Clone, Copy, Debug)]
 pub struct Address {
     /// The register.
-    pub base: u32,
+    pub base: Register,
     /// The bytes.
     pub displacement: u32,
 }
@@ -37,7 +38,7 @@ impl Address {
         ensures displacement { result.displacement ≡ 0 }
     {
         Address {
-            base: 0,
+            base: Register::new(0),
             displacement: 0,
         }
     }
@@ -55,27 +56,25 @@ impl Address {
 }
 
 // The instruction of an access.
-fn access_of(access: Access, register: u32, base: u32, imm: u32) -> Inst
-    requires register { register < 32 }
-    requires base { base < 32 }
+fn access_of(access: Access, register: Register, base: Register, imm: u32) -> Inst
     requires imm { imm < 2 ^ 16 }
     ensures value { result ≡ access_inst access register base imm }
     ensures range { InRange result }
 {
     match access {
         Access::Load => Inst::Lw {
-            rt: register,
-            rs: base,
+            rt: register.number(),
+            rs: base.number(),
             imm,
         },
         Access::Store => Inst::Sw {
-            rt: register,
-            rs: base,
+            rt: register.number(),
+            rs: base.number(),
             imm,
         },
         Access::Address => Inst::Addiu {
-            rt: register,
-            rs: base,
+            rt: register.number(),
+            rs: base.number(),
             imm,
         },
     }
@@ -93,13 +92,10 @@ fn upper(word: u32) -> u32
 fn emit_far(
     code: &mut Vec<u32>,
     access: Access,
-    register: u32,
-    free: u32,
+    register: Register,
+    free: Register,
     address: Address,
 ) -> Result<(), AllocError>
-    requires register { register < 32 }
-    requires free { free < 32 }
-    requires base { address.base < 32 }
     ensures appended { Appends code.old.items code.new.items (far_code (access_inst access register) free (address_view address)) result }
     ensures unchanged { OnErr result (code.new.items ≡ code.old.items) }
 {
@@ -108,8 +104,8 @@ fn emit_far(
         imm: upper(address.displacement),
     };
     let sum = Inst::Addu {
-        rd: free,
-        rs: address.base,
+        rd: free.number(),
+        rs: address.base.number(),
         rt: SCRATCH,
     };
     let last = access_of(access, register, free, low(address.displacement));
@@ -117,19 +113,16 @@ fn emit_far(
 }
 
 /// Appends the code that loads the word of a place into a register, stores the register there, or puts the place's address into the
-/// register; where the place is too far for an immediate, `free` holds its address. The registers and the address's base are below 32.
+/// register; where the place is too far for an immediate, `free` holds its address.
 ///
 /// Want of memory leaves `code` as it was.
 pub fn emit_access(
     code: &mut Vec<u32>,
     access: Access,
-    register: u32,
-    free: u32,
+    register: Register,
+    free: Register,
     address: Address,
 ) -> Result<(), AllocError>
-    requires register { register < 32 }
-    requires free { free < 32 }
-    requires base { address.base < 32 }
     ensures appended { Appends code.old.items code.new.items (access_code (access_inst access register) free (address_view address)) result }
     ensures unchanged { OnErr result (code.new.items ≡ code.old.items) }
 {

@@ -8,6 +8,7 @@ ghost use Rattle.c0_expr_code.specs.Node.{element_test};
 ghost use Rattle.c0_expr_code.specs.SettingIn.{setting_in};
 
 use crate::constant::emit_constant;
+use crate::register::Register;
 use crate::setting::CodeSetting;
 use crate::word::emit;
 use c0_typed::Elements;
@@ -37,8 +38,7 @@ fn shift_of(words: u32) -> Option<u32>
 }
 
 // Appends whether an index is below a length, into the scratch register.
-fn emit_bound(code: &mut Vec<u32>, index: u32, count: u32) -> Result<(), AllocError>
-    requires { index < 32 }
+fn emit_bound(code: &mut Vec<u32>, index: Register, count: u32) -> Result<(), AllocError>
     ensures { Appends code.old.items code.new.items (bound_code index count) result }
 {
     if count < 0x8000 {
@@ -46,25 +46,24 @@ fn emit_bound(code: &mut Vec<u32>, index: u32, count: u32) -> Result<(), AllocEr
             code,
             Inst::Sltiu {
                 rt: SCRATCH,
-                rs: index,
+                rs: index.number(),
                 imm: count,
             },
         );
     }
-    emit_constant(code, SCRATCH, count)?;
+    emit_constant(code, Register::new(SCRATCH), count)?;
     emit(
         code,
         Inst::Sltu {
             rd: SCRATCH,
-            rs: index,
+            rs: index.number(),
             rt: SCRATCH,
         },
     )
 }
 
 // Appends a word in a register times the bytes of an element, into the scratch register.
-fn emit_scaled(code: &mut Vec<u32>, index: u32, elements: Elements) -> Result<(), AllocError>
-    requires { index < 32 }
+fn emit_scaled(code: &mut Vec<u32>, index: Register, elements: Elements) -> Result<(), AllocError>
     ensures { Appends code.old.items code.new.items (scaled_at (shift_within POWERS elements.words) elements.bytes index) result }
 {
     if let Some(by) = shift_of(elements.words) {
@@ -72,16 +71,16 @@ fn emit_scaled(code: &mut Vec<u32>, index: u32, elements: Elements) -> Result<()
             code,
             Inst::Sll {
                 rd: SCRATCH,
-                rt: index,
+                rt: index.number(),
                 sa: by,
             },
         );
     }
-    emit_constant(code, SCRATCH, elements.bytes)?;
+    emit_constant(code, Register::new(SCRATCH), elements.bytes)?;
     emit(
         code,
         Inst::Mult {
-            rs: index,
+            rs: index.number(),
             rt: SCRATCH,
         },
     )?;
@@ -89,15 +88,14 @@ fn emit_scaled(code: &mut Vec<u32>, index: u32, elements: Elements) -> Result<()
 }
 
 /// Appends a jump to an exit, and a branch over it where a register isn't 0.
-pub fn emit_guard(code: &mut Vec<u32>, register: u32, exit: u32) -> Result<(), AllocError>
-    requires register { register < 32 }
+pub fn emit_guard(code: &mut Vec<u32>, register: Register, exit: u32) -> Result<(), AllocError>
     requires exit { exit < 2 ^ 28 }
     ensures { Appends code.old.items code.new.items (Bne register 0 1 ∷ J (exit / 4) ∷ []) result }
 {
     emit(
         code,
         Inst::Bne {
-            rs: register,
+            rs: register.number(),
             rt: 0,
             imm: 1,
         },
@@ -109,24 +107,21 @@ pub fn emit_guard(code: &mut Vec<u32>, register: u32, exit: u32) -> Result<(), A
 pub fn emit_element(
     code: &mut Vec<u32>,
     setting: &CodeSetting,
-    target: u32,
-    base: u32,
-    index: u32,
+    target: Register,
+    base: Register,
+    index: Register,
     elements: Elements,
 ) -> Result<(), AllocError>
-    requires target { target < 32 }
-    requires base { base < 32 }
-    requires index { index < 32 }
     ensures { Appends code.old.items code.new.items (element_test (setting_in setting.now) elements index base target) result }
 {
     emit_bound(code, index, elements.count)?;
-    emit_guard(code, SCRATCH, setting.exits.bounds)?;
+    emit_guard(code, Register::new(SCRATCH), setting.exits.bounds)?;
     emit_scaled(code, index, elements)?;
     emit(
         code,
         Inst::Addu {
-            rd: target,
-            rs: base,
+            rd: target.number(),
+            rs: base.number(),
             rt: SCRATCH,
         },
     )

@@ -1,9 +1,10 @@
 // What is known of variables at a place of the code.
 
-ghost use Rattle.std.specs.Prelude.{◌≡◌, ◌<◌, IfSome, slice_set};
+ghost use Rattle.std.specs.Prelude.{◌≡◌, ◌<◌, slice_set};
 ghost use Rattle.c0_typed.specs.View.{typed_expr_view};
 ghost use Rattle.c0_expr_code.specs.Facts as spec;
 
+use crate::register::Register;
 use c0_typed::{Plain, TypedExpr};
 use masm::registers::{ANSWER, ARGUMENTS};
 
@@ -116,15 +117,14 @@ impl Facts {
     }
 
     /// The register that has the word of a variable in the frame: 2, or one from 20 to 27.
-    pub fn register_holding(&self, number: u32) -> Option<u32>
-        ensures value { result ≡ spec.register_holding self.now number }
-        ensures small { IfSome result (λ q. q < 32) }
+    pub fn register_holding(&self, number: u32) -> Option<Register>
+        ensures { result ≡ spec.register_holding self.now number }
     {
         if self.holds_answer(number) {
-            return Some(ANSWER);
+            return Some(Register::new(ANSWER));
         }
         if self.holds_param(number) {
-            return Some(ARGUMENTS + number);
+            return Some(Register::new(ARGUMENTS + number));
         }
         None
     }

@@ -1,6 +1,6 @@
 // What is known of a typed expression by its outermost part, and the places of locals.
 
-ghost use Rattle.std.specs.Prelude.{◌≡◌, ℕ, ◌+◌, ◌-◌, ◌*◌, ◌%◌, ◌^◌, ◌<◌, Some, IfSome};
+ghost use Rattle.std.specs.Prelude.{◌≡◌, ℕ, ◌+◌, ◌-◌, ◌*◌, ◌%◌, ◌^◌, Some};
 ghost use Rattle.c0_typed.specs.View.{typed_expr_view};
 ghost use Rattle.c0_expr_code.specs.Facts.{register_of_variable};
 ghost use Rattle.c0_expr_code.specs.Emit.{IsSameAddress};
@@ -10,6 +10,7 @@ ghost use Rattle.c0_expr_code.specs.Node.{local_node, node_made};
 ghost use Rattle.c0_expr_code.specs.SettingIn.{node_in, setting_in};
 
 use crate::address::Address;
+use crate::register::Register;
 use crate::setting::CodeSetting;
 use crate::word::wrapped;
 use c0_typed::TypedExpr;
@@ -45,25 +46,26 @@ pub fn known_word(expr: &TypedExpr) -> Option<u32>
 }
 
 // Register 0, where a word is 0.
-fn zero_of(word: u32) -> Option<u32>
-    ensures value { result ≡ zero_register (Some word) }
-    ensures small { IfSome result (λ q. q < 32) }
+fn zero_of(word: u32) -> Option<Register>
+    ensures { result ≡ zero_register (Some word) }
 {
-    if word == 0 { Some(0) } else { None }
+    if word == 0 {
+        Some(Register::new(0))
+    } else {
+        None
+    }
 }
 
 // The register of a variable.
-fn register_of(number: u32) -> u32
-    ensures value { result ≡ register_of_variable number }
-    ensures small { result < 32 }
+fn register_of(number: u32) -> Register
+    ensures { result ≡ register_of_variable number }
 {
-    ((u64::from(ARGUMENTS) + u64::from(number)) % 32) as u32
+    Register::new(((u64::from(ARGUMENTS) + u64::from(number)) % 32) as u32)
 }
 
 // The register of a variable, where variables stand in registers, or that has its word.
-fn register_where(setting: &CodeSetting, number: u32) -> Option<u32>
-    ensures value { result ≡ local_register setting.now.in_registers setting.now.facts number }
-    ensures small { IfSome result (λ q. q < 32) }
+fn register_where(setting: &CodeSetting, number: u32) -> Option<Register>
+    ensures { result ≡ local_register setting.now.in_registers setting.now.facts number }
 {
     if setting.in_registers {
         Some(register_of(number))
@@ -73,9 +75,8 @@ fn register_where(setting: &CodeSetting, number: u32) -> Option<u32>
 }
 
 // The register in which an expression stands with no code.
-fn stands(setting: &CodeSetting, expr: &TypedExpr) -> Option<u32>
-    ensures value { result ≡ stands_of setting.now.in_registers setting.now.facts (typed_expr_view expr.now) }
-    ensures small { IfSome result (λ q. q < 32) }
+fn stands(setting: &CodeSetting, expr: &TypedExpr) -> Option<Register>
+    ensures { result ≡ stands_of setting.now.in_registers setting.now.facts (typed_expr_view expr.now) }
 {
     match expr {
         TypedExpr::Global(_) => None,
@@ -96,17 +97,15 @@ fn stands(setting: &CodeSetting, expr: &TypedExpr) -> Option<u32>
 }
 
 /// The register in which an expression stands with no code.
-pub fn register_standing(setting: &CodeSetting, expr: &TypedExpr) -> Option<u32>
-    ensures value { result ≡ (node_in setting.now expr.now).stands }
-    ensures small { IfSome result (λ q. q < 32) }
+pub fn register_standing(setting: &CodeSetting, expr: &TypedExpr) -> Option<Register>
+    ensures { result ≡ (node_in setting.now expr.now).stands }
 {
     stands(setting, expr)
 }
 
 // The register of a variable, where variables stand in registers.
-fn own(in_registers: bool, expr: &TypedExpr) -> Option<u32>
-    ensures value { result ≡ own_register in_registers (typed_expr_view expr.now) }
-    ensures small { IfSome result (λ q. q < 32) }
+fn own(in_registers: bool, expr: &TypedExpr) -> Option<Register>
+    ensures { result ≡ own_register in_registers (typed_expr_view expr.now) }
 {
     match expr {
         TypedExpr::Global(_) => None,
@@ -133,9 +132,8 @@ fn own(in_registers: bool, expr: &TypedExpr) -> Option<u32>
 }
 
 /// The register that an expression is, where it is a variable that stands nowhere else.
-pub fn register_place(setting: &CodeSetting, expr: &TypedExpr) -> Option<u32>
-    ensures value { result ≡ (node_in setting.now expr.now).register }
-    ensures small { IfSome result (λ q. q < 32) }
+pub fn register_place(setting: &CodeSetting, expr: &TypedExpr) -> Option<Register>
+    ensures { result ≡ (node_in setting.now expr.now).register }
 {
     own(setting.in_registers, expr)
 }
@@ -149,14 +147,13 @@ pub fn frame_bytes(setting: &CodeSetting, word: u64) -> u32
 
 /// The place of a variable so many words behind the first one; no place where it stands in a register.
 pub fn local_address(setting: &CodeSetting, words: u64) -> Address
-    ensures place { (n r : ℕ) → IsSameAddress result ((local_node (setting_in setting.now) n words).place r) }
-    ensures base { result.base < 32 }
+    ensures { (n r : ℕ) → IsSameAddress result ((local_node (setting_in setting.now) n words).place r) }
 {
     if setting.in_registers {
         Address::none()
     } else {
         Address {
-            base: FRAME_END,
+            base: Register::new(FRAME_END),
             displacement: frame_bytes(setting, words.wrapping_add(3)),
         }
     }

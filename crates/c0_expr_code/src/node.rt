@@ -1,6 +1,6 @@
 // The code of typed expressions. Where memory is wanting, a part of an expression's code may stand behind what stood before.
 
-ghost use Rattle.std.specs.Prelude.{◌≡◌, ℕ, ◌+◌, ◌≤◌, ◌<◌, ◌∷◌, [], true, IfOk, Some};
+ghost use Rattle.std.specs.Prelude.{◌≡◌, ℕ, ◌+◌, ◌≤◌, ◌∷◌, [], true, IfOk, Some};
 ghost use Rattle.mips_table.specs.Encoding.{InRange};
 ghost use Rattle.mips_table.specs.declared.inst.Inst.TheVariants.{Subu, Xori};
 ghost use Rattle.c0_typed.specs.declared.sorted.Plain.TheVariants.{Sum};
@@ -20,6 +20,7 @@ use crate::element::{emit_element, emit_guard};
 use crate::known::{known_word, local_address, register_standing};
 use crate::operator::{emit_division, emit_operator, emit_with_constant, takes_constant};
 use crate::patching::patch;
+use crate::register::Register;
 use crate::setting::CodeSetting;
 use crate::word::emit;
 use c0_typed::{Elements, Plain, TypedExpr};
@@ -38,20 +39,19 @@ fn is_never_zero(known: Option<u32>) -> bool
 }
 
 // The branch over the right side of `||`, or else of `&&`, which leads nowhere yet.
-fn skip(is_or: bool, register: u32) -> Inst
-    requires { register < 32 }
+fn skip(is_or: bool, register: Register) -> Inst
     ensures value { result ≡ logic_skip is_or register 0 }
     ensures range { InRange result }
 {
     if is_or {
         Inst::Bne {
-            rs: register,
+            rs: register.number(),
             rt: 0,
             imm: 0,
         }
     } else {
         Inst::Beq {
-            rs: register,
+            rs: register.number(),
             rt: 0,
             imm: 0,
         }
@@ -59,19 +59,17 @@ fn skip(is_or: bool, register: u32) -> Inst
 }
 
 // Appends a copy of a register, unless it is that register.
-fn emit_to(code: &mut Vec<u32>, target: u32, source: u32) -> Result<(), AllocError>
-    requires target { target < 32 }
-    requires source { source < 32 }
+fn emit_to(code: &mut Vec<u32>, target: Register, source: Register) -> Result<(), AllocError>
     ensures { Appends code.old.items code.new.items (to_code target source) result }
 {
-    if target == source {
+    if target.number() == source.number() {
         return Ok(());
     }
     emit(
         code,
         Inst::Addu {
-            rd: target,
-            rs: source,
+            rd: target.number(),
+            rs: source.number(),
             rt: 0,
         },
     )
@@ -85,17 +83,17 @@ pub fn emit_operand(
     expr: &TypedExpr,
     free: u32,
     code: &mut Vec<u32>,
-) -> Result<u32, AllocError>
+) -> Result<Register, AllocError>
     requires { free + typed_need (typed_expr_view expr.now) ≤ 20 }
     ensures code { Appends code.old.items code.new.items (operand_code (node_in setting.now expr.now) free) result }
     ensures register { IfOk result (λ q. q ≡ operand_register (node_in setting.now expr.now) free) }
-    ensures small { IfOk result (λ q. q < 32) }
 {
     if let Some(register) = register_standing(setting, expr) {
         return Ok(register);
     }
-    emit_value(setting, expr, free, free, code)?;
-    Ok(free)
+    let register = Register::new(free);
+    emit_value(setting, expr, register, free, code)?;
+    Ok(register)
 }
 
 /// Appends the code of a place, with free registers from `free` to 19, and answers where the place is then; no code and no place where the
@@ -110,11 +108,10 @@ pub fn emit_place(
     requires { free + typed_need (typed_expr_view expr.now) ≤ 20 }
     ensures code { Appends code.old.items code.new.items ((node_in setting.now expr.now).place free).code result }
     ensures place { IfOk result (λ x. IsSameAddress x ((node_in setting.now expr.now).place free)) }
-    ensures small { IfOk result (λ x. x.base < 32) }
 {
     match expr {
         TypedExpr::Global(bytes) => Ok(Address {
-            base: GLOBALS,
+            base: Register::new(GLOBALS),
             displacement: *bytes,
         }),
         TypedExpr::Local(_, words) => Ok(local_address(setting, *words)),
@@ -143,9 +140,8 @@ fn emit_null_test(
     code: &mut Vec<u32>,
     setting: &CodeSetting,
     is_sure: bool,
-    register: u32,
+    register: Register,
 ) -> Result<(), AllocError>
-    requires { register < 32 }
     ensures { Appends code.old.items code.new.items (null_test (setting_in setting.now).exit is_sure register) result }
 {
     if is_sure {
@@ -166,7 +162,6 @@ fn emit_target(
     requires { free + typed_need (typed_expr_view pointer.now) ≤ 20 }
     ensures code { Appends code.old.items code.new.items (target_node setting.now pointer.now free).code result }
     ensures place { IfOk result (λ x. IsSameAddress x (target_node setting.now pointer.now free)) }
-    ensures small { IfOk result (λ x. x.base < 32) }
 {
     let base = emit_operand(setting, pointer, free, code)?;
     let is_sure = setting.facts.is_sure_pointer(pointer);
@@ -191,28 +186,27 @@ fn emit_indexed(
     requires second { free + 1 + typed_need (typed_expr_view index.now) ≤ 20 }
     ensures code { Appends code.old.items code.new.items (tested_node setting.now elements place.now index.now free).code result }
     ensures place { IfOk result (λ x. IsSameAddress x (tested_node setting.now elements place.now index.now free)) }
-    ensures small { IfOk result (λ x. x.base < 32) }
 {
     let address = emit_place(setting, place, free, code)?;
     let register = emit_operand(setting, index, free + 1, code)?;
-    emit_element(code, setting, free, address.base, register, elements)?;
+    let target = Register::new(free);
+    emit_element(code, setting, target, address.base, register, elements)?;
     Ok(Address {
-        base: free,
+        base: target,
         displacement: address.displacement,
     })
 }
 
-/// Appends the code of a value, into register `target`, below 32, with free registers from `free` to 19.
+/// Appends the code of a value, into register `target`, with free registers from `free` to 19.
 #[cycle(node)]
 pub fn emit_value(
     setting: &CodeSetting,
     expr: &TypedExpr,
-    target: u32,
+    target: Register,
     free: u32,
     code: &mut Vec<u32>,
 ) -> Result<(), AllocError>
     requires room { free + typed_need (typed_expr_view expr.now) ≤ 20 }
-    requires target { target < 32 }
     ensures { Appends code.old.items code.new.items ((node_in setting.now expr.now).value target free) result }
 {
     match expr {
@@ -251,35 +245,32 @@ fn emit_held(
     setting: &CodeSetting,
     expr: &TypedExpr,
     access: Access,
-    target: u32,
+    target: Register,
     free: u32,
     code: &mut Vec<u32>,
 ) -> Result<(), AllocError>
     requires room { free + typed_need (typed_expr_view expr.now) ≤ 20 }
-    requires target { target < 32 }
     ensures { Appends code.old.items code.new.items (access_code (access_inst access target) free ((node_in setting.now expr.now).place free)) result }
 {
     let address = emit_place(setting, expr, free, code)?;
-    emit_access(code, access, target, free, address)
+    emit_access(code, access, target, Register::new(free), address)
 }
 
 // Appends a copy of a variable's register, also of one to itself where variables stand in registers alone.
 fn emit_copy(
     code: &mut Vec<u32>,
     setting: &CodeSetting,
-    target: u32,
-    source: u32,
+    target: Register,
+    source: Register,
 ) -> Result<(), AllocError>
-    requires target { target < 32 }
-    requires source { source < 32 }
     ensures { (x : AddressingMode) (r : ℕ) → Appends code.old.items code.new.items (held_code setting.now.in_registers (Some source) x target r) result }
 {
     if setting.in_registers {
         emit(
             code,
             Inst::Addu {
-                rd: target,
-                rs: source,
+                rd: target.number(),
+                rs: source.number(),
                 rt: 0,
             },
         )
@@ -293,12 +284,11 @@ fn emit_copy(
 fn emit_local(
     setting: &CodeSetting,
     expr: &TypedExpr,
-    target: u32,
+    target: Register,
     free: u32,
     code: &mut Vec<u32>,
 ) -> Result<(), AllocError>
     requires room { free + typed_need (typed_expr_view expr.now) ≤ 20 }
-    requires target { target < 32 }
     ensures { Appends code.old.items code.new.items (held_node setting.now expr.now target free) result }
 {
     if let Some(source) = register_standing(setting, expr) {
@@ -312,21 +302,20 @@ fn emit_local(
 fn emit_negative(
     setting: &CodeSetting,
     operand: &TypedExpr,
-    target: u32,
+    target: Register,
     free: u32,
     code: &mut Vec<u32>,
 ) -> Result<(), AllocError>
     requires room { free + typed_need (typed_expr_view operand.now) ≤ 20 }
-    requires target { target < 32 }
     ensures { Appends code.old.items code.new.items (one_code (λ q. Subu target 0 q ∷ []) (node_in setting.now operand.now) free) result }
 {
     let source = emit_operand(setting, operand, free, code)?;
     emit(
         code,
         Inst::Subu {
-            rd: target,
+            rd: target.number(),
             rs: 0,
-            rt: source,
+            rt: source.number(),
         },
     )
 }
@@ -336,20 +325,19 @@ fn emit_negative(
 fn emit_negation(
     setting: &CodeSetting,
     operand: &TypedExpr,
-    target: u32,
+    target: Register,
     free: u32,
     code: &mut Vec<u32>,
 ) -> Result<(), AllocError>
     requires room { free + typed_need (typed_expr_view operand.now) ≤ 20 }
-    requires target { target < 32 }
     ensures { Appends code.old.items code.new.items (one_code (λ q. Xori target q 1 ∷ []) (node_in setting.now operand.now) free) result }
 {
     let source = emit_operand(setting, operand, free, code)?;
     emit(
         code,
         Inst::Xori {
-            rt: target,
-            rs: source,
+            rt: target.number(),
+            rs: source.number(),
             imm: 1,
         },
     )
@@ -362,12 +350,11 @@ fn emit_constant_side(
     op: Plain,
     side: &TypedExpr,
     word: u32,
-    target: u32,
+    target: Register,
     free: u32,
     code: &mut Vec<u32>,
 ) -> Result<(), AllocError>
     requires room { free + typed_need (typed_expr_view side.now) ≤ 20 }
-    requires target { target < 32 }
     requires takes { is_immediate (immediate (plain_of op) word) ≡ true }
     ensures { Appends code.old.items code.new.items (side_node setting.now (immediate (plain_of op) word) side.now target free) result }
 {
@@ -382,13 +369,12 @@ fn emit_both_sides(
     op: Plain,
     left: &TypedExpr,
     right: &TypedExpr,
-    target: u32,
+    target: Register,
     free: u32,
     code: &mut Vec<u32>,
 ) -> Result<(), AllocError>
     requires first { free + typed_need (typed_expr_view left.now) ≤ 20 }
     requires second { free + 1 + typed_need (typed_expr_view right.now) ≤ 20 }
-    requires target { target < 32 }
     ensures { Appends code.old.items code.new.items (sides_nodes setting.now (plain_of op) left.now right.now target free) result }
 {
     let first = emit_operand(setting, left, free, code)?;
@@ -403,13 +389,12 @@ fn emit_right_constant(
     op: Plain,
     left: &TypedExpr,
     right: &TypedExpr,
-    target: u32,
+    target: Register,
     free: u32,
     code: &mut Vec<u32>,
 ) -> Result<(), AllocError>
     requires first { free + typed_need (typed_expr_view left.now) ≤ 20 }
     requires second { free + 1 + typed_need (typed_expr_view right.now) ≤ 20 }
-    requires target { target < 32 }
     ensures { Appends code.old.items code.new.items ((plain_nodes setting.now (plain_of op) left.now right.now).value target free) result }
 {
     if let Some(word) = known_word(right) {
@@ -426,13 +411,12 @@ fn emit_addition(
     setting: &CodeSetting,
     left: &TypedExpr,
     right: &TypedExpr,
-    target: u32,
+    target: Register,
     free: u32,
     code: &mut Vec<u32>,
 ) -> Result<(), AllocError>
     requires first { free + typed_need (typed_expr_view left.now) ≤ 20 }
     requires second { free + 1 + typed_need (typed_expr_view right.now) ≤ 20 }
-    requires target { target < 32 }
     ensures { Appends code.old.items code.new.items ((plain_node Sum (node_in setting.now left.now) (node_in setting.now right.now)).value target free) result }
 {
     if let Some(word) = known_word(right) {
@@ -455,13 +439,12 @@ fn emit_plain(
     op: Plain,
     left: &TypedExpr,
     right: &TypedExpr,
-    target: u32,
+    target: Register,
     free: u32,
     code: &mut Vec<u32>,
 ) -> Result<(), AllocError>
     requires first { free + typed_need (typed_expr_view left.now) ≤ 20 }
     requires second { free + 1 + typed_need (typed_expr_view right.now) ≤ 20 }
-    requires target { target < 32 }
     ensures { Appends code.old.items code.new.items ((plain_node op (node_in setting.now left.now) (node_in setting.now right.now)).value target free) result }
 {
     match op {
@@ -481,13 +464,12 @@ fn emit_quotient(
     is_quotient: bool,
     left: &TypedExpr,
     right: &TypedExpr,
-    target: u32,
+    target: Register,
     free: u32,
     code: &mut Vec<u32>,
 ) -> Result<(), AllocError>
     requires first { free + typed_need (typed_expr_view left.now) ≤ 20 }
     requires second { free + 1 + typed_need (typed_expr_view right.now) ≤ 20 }
-    requires target { target < 32 }
     ensures { Appends code.old.items code.new.items (quotient_nodes setting.now is_quotient left.now right.now target free) result }
 {
     let first = emit_operand(setting, left, free, code)?;
@@ -509,8 +491,9 @@ fn emit_right(
     ensures { Appends code.old.items code.new.items (right_code is_or free ((node_in setting.now right.now).value free free)) result }
 {
     let at = code.len();
-    emit(code, skip(is_or, free))?;
-    emit_value(setting, right, free, free, code)?;
+    let register = Register::new(free);
+    emit(code, skip(is_or, register))?;
+    emit_value(setting, right, register, free, code)?;
     let end = code.len();
     patch(code, at, end);
     Ok(())
@@ -523,17 +506,17 @@ fn emit_logic(
     is_or: bool,
     left: &TypedExpr,
     right: &TypedExpr,
-    target: u32,
+    target: Register,
     free: u32,
     code: &mut Vec<u32>,
 ) -> Result<(), AllocError>
     requires first { free + typed_need (typed_expr_view left.now) ≤ 20 }
     requires second { free + typed_need (typed_expr_view right.now) ≤ 20 }
-    requires target { target < 32 }
     ensures { Appends code.old.items code.new.items (logic_nodes setting.now is_or left.now right.now target free) result }
 {
-    emit_value(setting, left, free, free, code)?;
+    let register = Register::new(free);
+    emit_value(setting, left, register, free, code)?;
     let behind = setting.told(left, !is_or);
     emit_right(&behind, is_or, right, free, code)?;
-    emit_to(code, target, free)
+    emit_to(code, target, register)
 }

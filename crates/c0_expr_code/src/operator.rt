@@ -11,6 +11,7 @@ ghost use Rattle.c0_expr_code.specs.Node.{divisor_test};
 ghost use Rattle.c0_expr_code.specs.SettingIn.{setting_in};
 
 use crate::element::emit_guard;
+use crate::register::Register;
 use crate::setting::CodeSetting;
 use crate::word::{emit, is_near, low};
 use c0_typed::{Order, Plain};
@@ -18,71 +19,78 @@ use mips_table::Inst;
 use std::alloc::AllocError;
 
 // The instruction that puts into a register whether another is 0, or whether it isn't.
-fn zero_test_of(is_equal: bool, target: u32, source: u32) -> Inst
-    requires target { target < 32 }
-    requires source { source < 32 }
+fn zero_test_of(is_equal: bool, target: Register, source: Register) -> Inst
     ensures value { result ≡ zero_test is_equal target source }
     ensures range { InRange result }
 {
     if is_equal {
         Inst::Sltiu {
-            rt: target,
-            rs: source,
+            rt: target.number(),
+            rs: source.number(),
             imm: 1,
         }
     } else {
         Inst::Sltu {
-            rd: target,
+            rd: target.number(),
             rs: 0,
-            rt: source,
+            rt: source.number(),
         }
     }
 }
 
 // Appends the sum of a register and a constant.
-fn emit_sum(code: &mut Vec<u32>, target: u32, left: u32, word: u32) -> Result<(), AllocError>
-    requires target { target < 32 }
-    requires left { left < 32 }
+fn emit_sum(
+    code: &mut Vec<u32>,
+    target: Register,
+    left: Register,
+    word: u32,
+) -> Result<(), AllocError>
     ensures { Appends code.old.items code.new.items (Addiu target left (lower word) ∷ []) result }
 {
     emit(
         code,
         Inst::Addiu {
-            rt: target,
-            rs: left,
+            rt: target.number(),
+            rs: left.number(),
             imm: low(word),
         },
     )
 }
 
 /// Appends whether a register is below a constant.
-pub fn emit_below(code: &mut Vec<u32>, target: u32, left: u32, word: u32) -> Result<(), AllocError>
-    requires target { target < 32 }
-    requires left { left < 32 }
+pub fn emit_below(
+    code: &mut Vec<u32>,
+    target: Register,
+    left: Register,
+    word: u32,
+) -> Result<(), AllocError>
     ensures { Appends code.old.items code.new.items (Slti target left (lower word) ∷ []) result }
 {
     emit(
         code,
         Inst::Slti {
-            rt: target,
-            rs: left,
+            rt: target.number(),
+            rs: left.number(),
             imm: low(word),
         },
     )
 }
 
 // Appends whether a register isn't below a constant.
-fn emit_not_below(code: &mut Vec<u32>, target: u32, left: u32, word: u32) -> Result<(), AllocError>
-    requires target { target < 32 }
-    requires left { left < 32 }
+fn emit_not_below(
+    code: &mut Vec<u32>,
+    target: Register,
+    left: Register,
+    word: u32,
+) -> Result<(), AllocError>
     ensures { Appends code.old.items code.new.items (Slti target left (lower word) ∷ Xori target target 1 ∷ []) result }
 {
     emit_below(code, target, left, word)?;
     emit(
         code,
         Inst::Xori {
-            rt: target,
-            rs: target,
+            rt: target.number(),
+            rs: target.number(),
             imm: 1,
         },
     )
@@ -92,12 +100,10 @@ fn emit_not_below(code: &mut Vec<u32>, target: u32, left: u32, word: u32) -> Res
 fn emit_equality_with(
     code: &mut Vec<u32>,
     is_equal: bool,
-    target: u32,
-    left: u32,
+    target: Register,
+    left: Register,
     word: u32,
 ) -> Result<(), AllocError>
-    requires target { target < 32 }
-    requires left { left < 32 }
     requires word { word < 2 ^ 16 }
     ensures { Appends code.old.items code.new.items (equality_code is_equal word target left) result }
 {
@@ -107,8 +113,8 @@ fn emit_equality_with(
     emit(
         code,
         Inst::Xori {
-            rt: target,
-            rs: left,
+            rt: target.number(),
+            rs: left.number(),
             imm: word,
         },
     )?;
@@ -145,12 +151,10 @@ pub fn takes_constant(op: Plain, word: u32) -> bool
 fn emit_order_with_constant(
     code: &mut Vec<u32>,
     order: Order,
-    target: u32,
-    left: u32,
+    target: Register,
+    left: Register,
     word: u32,
 ) -> Result<(), AllocError>
-    requires target { target < 32 }
-    requires left { left < 32 }
     requires takes { is_immediate (immediate (order_of order) word) ≡ true }
     ensures { Appends code.old.items code.new.items (code_with (immediate (order_of order) word) target left) result }
 {
@@ -166,12 +170,10 @@ fn emit_order_with_constant(
 pub fn emit_with_constant(
     code: &mut Vec<u32>,
     op: Plain,
-    target: u32,
-    left: u32,
+    target: Register,
+    left: Register,
     word: u32,
 ) -> Result<(), AllocError>
-    requires target { target < 32 }
-    requires left { left < 32 }
     requires takes { is_immediate (immediate (plain_of op) word) ≡ true }
     ensures { Appends code.old.items code.new.items (code_with (immediate (plain_of op) word) target left) result }
 {
@@ -186,33 +188,32 @@ pub fn emit_with_constant(
 }
 
 /// Whether one register is below another.
-pub fn less(target: u32, left: u32, right: u32) -> Inst
-    requires target { target < 32 }
-    requires left { left < 32 }
-    requires right { right < 32 }
+pub fn less(target: Register, left: Register, right: Register) -> Inst
     ensures value { result ≡ Slt target left right }
     ensures range { InRange result }
 {
     Inst::Slt {
-        rd: target,
-        rs: left,
-        rt: right,
+        rd: target.number(),
+        rs: left.number(),
+        rt: right.number(),
     }
 }
 
 // Appends whether one register isn't below another.
-fn emit_not_less(code: &mut Vec<u32>, target: u32, left: u32, right: u32) -> Result<(), AllocError>
-    requires target { target < 32 }
-    requires left { left < 32 }
-    requires right { right < 32 }
+fn emit_not_less(
+    code: &mut Vec<u32>,
+    target: Register,
+    left: Register,
+    right: Register,
+) -> Result<(), AllocError>
     ensures { Appends code.old.items code.new.items (Slt target left right ∷ Xori target target 1 ∷ []) result }
 {
     emit(code, less(target, left, right))?;
     emit(
         code,
         Inst::Xori {
-            rt: target,
-            rs: target,
+            rt: target.number(),
+            rs: target.number(),
             imm: 1,
         },
     )
@@ -222,54 +223,55 @@ fn emit_not_less(code: &mut Vec<u32>, target: u32, left: u32, right: u32) -> Res
 fn emit_equality(
     code: &mut Vec<u32>,
     is_equal: bool,
-    target: u32,
-    left: u32,
-    right: u32,
+    target: Register,
+    left: Register,
+    right: Register,
 ) -> Result<(), AllocError>
-    requires target { target < 32 }
-    requires left { left < 32 }
-    requires right { right < 32 }
     ensures { Appends code.old.items code.new.items (Xor target left right ∷ zero_test is_equal target target ∷ []) result }
 {
     emit(
         code,
         Inst::Xor {
-            rd: target,
-            rs: left,
-            rt: right,
+            rd: target.number(),
+            rs: left.number(),
+            rt: right.number(),
         },
     )?;
     emit(code, zero_test_of(is_equal, target, target))
 }
 
 // Appends a product.
-fn emit_product(code: &mut Vec<u32>, target: u32, left: u32, right: u32) -> Result<(), AllocError>
-    requires target { target < 32 }
-    requires left { left < 32 }
-    requires right { right < 32 }
+fn emit_product(
+    code: &mut Vec<u32>,
+    target: Register,
+    left: Register,
+    right: Register,
+) -> Result<(), AllocError>
     ensures { Appends code.old.items code.new.items (Mult left right ∷ Mflo target ∷ []) result }
 {
     emit(
         code,
         Inst::Mult {
-            rs: left,
-            rt: right,
+            rs: left.number(),
+            rt: right.number(),
         },
     )?;
-    emit(code, Inst::Mflo { rd: target })
+    emit(
+        code,
+        Inst::Mflo {
+            rd: target.number(),
+        },
+    )
 }
 
 // Appends an order between two registers.
 fn emit_order(
     code: &mut Vec<u32>,
     order: Order,
-    target: u32,
-    left: u32,
-    right: u32,
+    target: Register,
+    left: Register,
+    right: Register,
 ) -> Result<(), AllocError>
-    requires target { target < 32 }
-    requires left { left < 32 }
-    requires right { right < 32 }
     ensures { Appends code.old.items code.new.items (operator_code (order_of order) target left right) result }
 {
     match order {
@@ -284,30 +286,27 @@ fn emit_order(
 pub fn emit_operator(
     code: &mut Vec<u32>,
     op: Plain,
-    target: u32,
-    left: u32,
-    right: u32,
+    target: Register,
+    left: Register,
+    right: Register,
 ) -> Result<(), AllocError>
-    requires target { target < 32 }
-    requires left { left < 32 }
-    requires right { right < 32 }
     ensures { Appends code.old.items code.new.items (operator_code (plain_of op) target left right) result }
 {
     match op {
         Plain::Sum => emit(
             code,
             Inst::Addu {
-                rd: target,
-                rs: left,
-                rt: right,
+                rd: target.number(),
+                rs: left.number(),
+                rt: right.number(),
             },
         ),
         Plain::Difference => emit(
             code,
             Inst::Subu {
-                rd: target,
-                rs: left,
-                rt: right,
+                rd: target.number(),
+                rs: left.number(),
+                rt: right.number(),
             },
         ),
         Plain::Product => emit_product(code, target, left, right),
@@ -318,15 +317,18 @@ pub fn emit_operator(
 }
 
 // What is taken of a division.
-fn taken(is_quotient: bool, target: u32) -> Inst
-    requires { target < 32 }
+fn taken(is_quotient: bool, target: Register) -> Inst
     ensures value { result ≡ taken_inst is_quotient target }
     ensures range { InRange result }
 {
     if is_quotient {
-        Inst::Mflo { rd: target }
+        Inst::Mflo {
+            rd: target.number(),
+        }
     } else {
-        Inst::Mfhi { rd: target }
+        Inst::Mfhi {
+            rd: target.number(),
+        }
     }
 }
 
@@ -335,9 +337,8 @@ fn emit_divisor(
     code: &mut Vec<u32>,
     setting: &CodeSetting,
     untested: bool,
-    divisor: u32,
+    divisor: Register,
 ) -> Result<(), AllocError>
-    requires { divisor < 32 }
     ensures { Appends code.old.items code.new.items (divisor_test (setting_in setting.now) untested divisor) result }
 {
     if untested {
@@ -353,21 +354,18 @@ pub fn emit_division(
     setting: &CodeSetting,
     is_quotient: bool,
     untested: bool,
-    target: u32,
-    left: u32,
-    right: u32,
+    target: Register,
+    left: Register,
+    right: Register,
 ) -> Result<(), AllocError>
-    requires target { target < 32 }
-    requires left { left < 32 }
-    requires right { right < 32 }
     ensures { Appends code.old.items code.new.items (quotient_code (setting_in setting.now) is_quotient untested target left right) result }
 {
     emit_divisor(code, setting, untested, right)?;
     emit(
         code,
         Inst::Div {
-            rs: left,
-            rt: right,
+            rs: left.number(),
+            rt: right.number(),
         },
     )?;
     emit(code, taken(is_quotient, target))

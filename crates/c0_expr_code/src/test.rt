@@ -20,6 +20,7 @@ use crate::known::known_word;
 use crate::node::emit_operand;
 use crate::operator::{emit_below, less};
 use crate::patching::patch_all;
+use crate::register::Register;
 use crate::setting::CodeSetting;
 use crate::word::{emit, is_near};
 use c0_typed::{Order, Plain, TypedExpr};
@@ -28,60 +29,56 @@ use mips_table::Inst;
 use std::alloc::{AllocError, Global};
 
 // The branch to where two registers are equal, or where they differ; it leads nowhere yet.
-fn branch(is_equal: bool, left: u32, right: u32) -> Inst
-    requires left { left < 32 }
-    requires right { right < 32 }
+fn branch(is_equal: bool, left: Register, right: Register) -> Inst
     ensures value { result ≡ branch_code is_equal left right 0 }
     ensures range { InRange result }
 {
     if is_equal {
         Inst::Beq {
-            rs: left,
-            rt: right,
+            rs: left.number(),
+            rt: right.number(),
             imm: 0,
         }
     } else {
         Inst::Bne {
-            rs: left,
-            rt: right,
+            rs: left.number(),
+            rt: right.number(),
             imm: 0,
         }
     }
 }
 
 // The branch to where a register is below 0, or where it isn't.
-fn branch_negative(is_below: bool, register: u32) -> Inst
-    requires { register < 32 }
+fn branch_negative(is_below: bool, register: Register) -> Inst
     ensures value { result ≡ negative_branch is_below register 0 }
     ensures range { InRange result }
 {
     if is_below {
         Inst::Bltz {
-            rs: register,
+            rs: register.number(),
             imm: 0,
         }
     } else {
         Inst::Bgez {
-            rs: register,
+            rs: register.number(),
             imm: 0,
         }
     }
 }
 
 // The branch to where a register is above 0, or where it isn't.
-fn branch_positive(is_above: bool, register: u32) -> Inst
-    requires { register < 32 }
+fn branch_positive(is_above: bool, register: Register) -> Inst
     ensures value { result ≡ positive_branch is_above register 0 }
     ensures range { InRange result }
 {
     if is_above {
         Inst::Bgtz {
-            rs: register,
+            rs: register.number(),
             imm: 0,
         }
     } else {
         Inst::Blez {
-            rs: register,
+            rs: register.number(),
             imm: 0,
         }
     }
@@ -91,15 +88,16 @@ fn branch_positive(is_above: bool, register: u32) -> Inst
 fn emit_less_test(
     code: &mut Vec<u32>,
     is_not: bool,
-    left: u32,
-    right: u32,
+    left: Register,
+    right: Register,
 ) -> Result<(), AllocError>
-    requires left { left < 32 }
-    requires right { right < 32 }
     ensures { Appends code.old.items code.new.items (Slt scratch left right ∷ branch_code is_not scratch 0 0 ∷ []) result }
 {
-    emit(code, less(SCRATCH, left, right))?;
-    emit(code, branch(is_not, SCRATCH, 0))
+    emit(code, less(Register::new(SCRATCH), left, right))?;
+    emit(
+        code,
+        branch(is_not, Register::new(SCRATCH), Register::new(0)),
+    )
 }
 
 // Appends an order of two registers as a test.
@@ -107,11 +105,9 @@ fn emit_comparison(
     code: &mut Vec<u32>,
     order: Order,
     wanted: bool,
-    left: u32,
-    right: u32,
+    left: Register,
+    right: Register,
 ) -> Result<(), AllocError>
-    requires left { left < 32 }
-    requires right { right < 32 }
     ensures { Appends code.old.items code.new.items (compare_code (order_of order) wanted 0 left right) result }
 {
     match order {
@@ -126,14 +122,16 @@ fn emit_comparison(
 fn emit_below_test(
     code: &mut Vec<u32>,
     wanted: bool,
-    left: u32,
+    left: Register,
     word: u32,
 ) -> Result<(), AllocError>
-    requires { left < 32 }
     ensures { Appends code.old.items code.new.items (below_code word wanted 0 left) result }
 {
-    emit_below(code, SCRATCH, left, word)?;
-    emit(code, branch(!wanted, SCRATCH, 0))
+    emit_below(code, Register::new(SCRATCH), left, word)?;
+    emit(
+        code,
+        branch(!wanted, Register::new(SCRATCH), Register::new(0)),
+    )
 }
 
 // Whether an order has a test with room for a constant on its right side.
@@ -149,8 +147,12 @@ fn tests_constant(order: Order, word: u32) -> bool
 }
 
 // Appends the test of whether a register is below a constant, by its sign where that is 0.
-fn emit_lower(code: &mut Vec<u32>, wanted: bool, left: u32, word: u32) -> Result<(), AllocError>
-    requires { left < 32 }
+fn emit_lower(
+    code: &mut Vec<u32>,
+    wanted: bool,
+    left: Register,
+    word: u32,
+) -> Result<(), AllocError>
     ensures { Appends code.old.items code.new.items (lower_code word wanted left) result }
 {
     if word == 0 {
@@ -160,8 +162,12 @@ fn emit_lower(code: &mut Vec<u32>, wanted: bool, left: u32, word: u32) -> Result
 }
 
 // Appends the test of whether a register is above a constant.
-fn emit_higher(code: &mut Vec<u32>, wanted: bool, left: u32, word: u32) -> Result<(), AllocError>
-    requires { left < 32 }
+fn emit_higher(
+    code: &mut Vec<u32>,
+    wanted: bool,
+    left: Register,
+    word: u32,
+) -> Result<(), AllocError>
     ensures { Appends code.old.items code.new.items (higher_code word wanted left) result }
 {
     if word == 0 {
@@ -175,10 +181,9 @@ fn emit_constant_test(
     code: &mut Vec<u32>,
     order: Order,
     wanted: bool,
-    left: u32,
+    left: Register,
     word: u32,
 ) -> Result<(), AllocError>
-    requires left { left < 32 }
     requires takes { is_test_immediate (immediate_test (order_of order) word) ≡ true }
     ensures { Appends code.old.items code.new.items (test_with (immediate_test (order_of order) word) wanted 0 left) result }
 {
@@ -211,7 +216,7 @@ fn emit_bool_code(
     ensures { Appends code.old.items code.new.items (bool_node setting.now expr.now wanted free) result }
 {
     let register = emit_operand(setting, expr, free, code)?;
-    emit(code, branch(!wanted, register, 0))
+    emit(code, branch(!wanted, register, Register::new(0)))
 }
 
 // Appends the code of a side, and of its test against a constant.

@@ -4,5 +4,5 @@ use Rattle.c0_expr_code.specs.SettingIn.{setting_in}
 use Rattle.c0_expr_code.proofs.OutermostPart.{stands_is}
 use Rattle.c0_expr_code.proofs.known.register_standing.Goals as goal
 
-pub returns-clause-value : goal.returns-clause-value
-returns-clause-value c = c.stands.ensures.value ∙ stands_is (setting_in c.args.setting.now) (typed_expr_view c.args.expr.now)
+pub returns : goal.returns
+returns c = c.stands.ensures ∙ stands_is (setting_in c.args.setting.now) (typed_expr_view c.args.expr.now)

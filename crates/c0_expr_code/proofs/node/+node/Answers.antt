@@ -1,9 +1,9 @@
 -- An operator on two registers is no place; the branch over a right side; and what a right side goes by.
-use Rattle.std.proofs.Common.{◌≡◌, List, ◌++◌, map, length, sym, ap, ◌∙◌, subst, arith}
+use Rattle.std.proofs.Common.{◌≡◌, ℕ, List, ◌++◌, map, length, sym, ap, ◌∙◌, subst, arith}
 use Rattle.std.proofs.lemmas.List.{append-nil, length-map}
 use Rattle.mips_table.specs.declared.inst.Inst.{Inst}
 use Rattle.mips_table.specs.Encoding.{encoding}
-use Rattle.c0_expr_code.specs.Emit.{Appends}
+use Rattle.c0_expr_code.specs.Emit.{Appends, logic_skip}
 use Rattle.c0_expr_code.specs.Code.{AddressingMode}
 use Rattle.c0_expr_code.specs.SettingIn.{node_in, setting_in}
 use Rattle.c0_expr_code.proofs.BranchPatched.{patched}
@@ -22,11 +22,14 @@ emit_place-returns-in-Plain-clause-place t c =
 
 pub emit_right-returns : goal.emit_right-returns
 emit_right-returns t c =
-    let code = (node_in c.args.setting.now c.args.right.now).value c.args.free c.args.free in
+    let value = (node_in c.args.setting.now c.args.right.now).value in
+    let code = value c.args.free c.args.free in
+    let word = c.skip.ensures.value ∙ ap (λ (q : ℕ). logic_skip c.args.is_or q 0) c.new-register.ensures in
+    let words = c.in_ok-emit_value.ensures ∙ ap (λ (q : ℕ). c.emit.new.code.items ++ map encoding (value q c.args.free)) c.new-register.ensures in
     let at : c.len-at.result ≡ length c.args.code.now.items = omega (arith, c.len-at.ensures) in
     let to : c.len-end.result ≡ length c.emit_value.new.code.items = omega (arith, c.len-end.ensures) in
     patched c.args.is_or c.args.free c.args.code.now.items (map encoding code) c.emit.new.code.items c.emit_value.new.code.items c.patch.new.code.items c.len-at.result c.len-end.result
-    (encoding c.skip.result) (length code) (ap encoding c.skip.ensures.value) c.in_ok-emit.ensures.appended c.in_ok-emit_value.ensures at to c.patch.ensures (sym (length-map code encoding))
+    (encoding c.skip.result) (length code) (ap encoding word) c.in_ok-emit.ensures.appended words at to c.patch.ensures (sym (length-map code encoding))
 
 pub emit_value-returns-in-Both : goal.emit_value-returns-in-Both
 emit_value-returns-in-Both t c =
