@@ -16,8 +16,8 @@ ghost use Rattle.c0_stmt_code.specs.TypedCode.{typed_answer, typed_args, typed_a
 
 use crate::prologue::register_behind;
 use c0_expr_code::{
-    Access, CodeSetting, Facts, emit, emit_access, emit_constant, emit_operand, emit_place,
-    emit_value, register_place,
+    Access, CodeSetting, Facts, Register, emit, emit_access, emit_constant, emit_operand,
+    emit_place, emit_value, register_place,
 };
 use c0_tree::Kind;
 use c0_typed::TypedExpr;
@@ -54,17 +54,16 @@ fn index_of(addresses: &CodeAddresses, kind: Kind, number: u32) -> u32
 // Appends the code of a place, and a register's store there.
 fn emit_stored(
     setting: &CodeSetting,
-    register: u32,
+    register: Register,
     free: u32,
     place: &TypedExpr,
     code: &mut Vec<u32>,
 ) -> Result<(), AllocError>
-    requires register { register < 32 }
     requires room { free + typed_need (typed_expr_view place.now) ≤ 20 }
     ensures { Appends code.old.items code.new.items (access_code (access_inst Store register) free ((node_in setting.now place.now).place free)) result }
 {
     let address = emit_place(setting, place, free, code)?;
-    emit_access(code, Access::Store, register, free, address)
+    emit_access(code, Access::Store, register, Register::new(free), address)
 }
 
 // Appends the code that takes an answer to its place.
@@ -80,13 +79,13 @@ fn emit_answer(
         return emit(
             code,
             Inst::Addu {
-                rd: target,
+                rd: target.number(),
                 rs: ANSWER,
                 rt: 0,
             },
         );
     }
-    emit_stored(setting, ANSWER, EXPRESSIONS, place, code)
+    emit_stored(setting, Register::new(ANSWER), EXPRESSIONS, place, code)
 }
 
 /// Appends the code of an assignment.
@@ -174,7 +173,7 @@ pub fn emit_new(
     requires place { typed_need (typed_expr_view place.now) ≤ 12 }
     ensures { Appends code.old.items code.new.items (new_in setting.now addresses.now words place.now) result }
 {
-    emit_constant(code, ANSWER, words)?;
+    emit_constant(code, Register::new(ANSWER), words)?;
     emit(
         code,
         Inst::Jal {

@@ -15,7 +15,7 @@ use crate::behind::facts_behind_all;
 use crate::prologue::{emit_entry, emit_exit, emit_stack_test};
 use crate::statement::emit_statements;
 use c0_asm_body::{emit_arguments, emit_asm};
-use c0_expr_code::{CodeSetting, Facts, emit, emit_value};
+use c0_expr_code::{CodeSetting, Facts, Register, emit, emit_value};
 use c0_typed::{TypedBody, TypedCode, TypedExpr, TypedFunction};
 use masm::registers::{ANSWER, CodeAddresses, EXPRESSIONS, RETURN, SCRATCH};
 use mips_table::Inst;
@@ -31,7 +31,7 @@ fn emit_return(
     requires { typed_need (typed_expr_view answer.now) ≤ 12 }
     ensures { Appends code.old.items code.new.items (typed_return (setting_in setting.now) calling (typed_expr_view answer.now)) result }
 {
-    emit_value(setting, answer, ANSWER, EXPRESSIONS, code)?;
+    emit_value(setting, answer, Register::new(ANSWER), EXPRESSIONS, code)?;
     emit_exit(setting, calling, code)
 }
 
@@ -69,7 +69,7 @@ fn emit_asm_function(
     requires allowed { IsTrue (are_allowed_words words.now) }
     ensures { Appends code.old.items code.new.items (asm_function (setting_in setting.now) params words.now) result }
 {
-    emit_stack_test(setting, SCRATCH, code)?;
+    emit_stack_test(setting, Register::new(SCRATCH), code)?;
     emit_arguments(alloc, params, code)?;
     emit_asm(alloc, words, code)?;
     emit(code, Inst::Jr { rs: RETURN })

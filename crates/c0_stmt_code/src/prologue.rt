@@ -13,7 +13,7 @@ ghost use Rattle.c0_stmt_code.specs.Emit.{cleared_in, entry_in, kept_code, regis
 ghost use Rattle.c0_stmt_code.specs.TypedFunction.{HasFrame};
 
 use crate::live::is_cleared;
-use c0_expr_code::{Access, Address, CodeSetting, emit, emit_access, frame_bytes};
+use c0_expr_code::{Access, Address, CodeSetting, Register, emit, emit_access, frame_bytes};
 use c0_typed::TypedCode;
 use masm::registers::{ANSWER, ARGUMENTS, FRAME_END, RETURN, SCRATCH, STACK_END};
 use mips_table::Inst;
@@ -29,17 +29,15 @@ const FEW_WORDS: u64 = 8;
 fn emit_word(
     setting: &CodeSetting,
     access: Access,
-    register: u32,
-    free: u32,
+    register: Register,
+    free: Register,
     word: u64,
     code: &mut Vec<u32>,
 ) -> Result<(), AllocError>
-    requires register { register < 32 }
-    requires free { free < 32 }
     ensures { Appends code.old.items code.new.items (access_code (access_inst access register) free (frame_slot (setting_in setting.now) word)) result }
 {
     let address = Address {
-        base: FRAME_END,
+        base: Register::new(FRAME_END),
         displacement: frame_bytes(setting, word),
     };
     emit_access(code, access, register, free, address)
@@ -53,12 +51,11 @@ fn bytes(words: u64) -> u32
 }
 
 // Appends the code that brings the end of the next frame into a register.
-fn emit_end(setting: &CodeSetting, target: u32, code: &mut Vec<u32>) -> Result<(), AllocError>
-    requires { target < 32 }
+fn emit_end(setting: &CodeSetting, target: Register, code: &mut Vec<u32>) -> Result<(), AllocError>
     ensures { Appends code.old.items code.new.items (end_code target (4 * (setting_in setting.now).frame)) result }
 {
     let address = Address {
-        base: FRAME_END,
+        base: Register::new(FRAME_END),
         displacement: bytes(setting.frame),
     };
     emit_access(code, Access::Address, target, target, address)
@@ -80,8 +77,7 @@ fn emit_large(setting: &CodeSetting, code: &mut Vec<u32>) -> Result<(), AllocErr
 }
 
 // Appends a jump to the exit of a want of stack, and a branch over it where a register is not behind the stack's end.
-fn emit_limit(setting: &CodeSetting, end: u32, code: &mut Vec<u32>) -> Result<(), AllocError>
-    requires { end < 32 }
+fn emit_limit(setting: &CodeSetting, end: Register, code: &mut Vec<u32>) -> Result<(), AllocError>
     ensures { Appends code.old.items code.new.items (Sltu SCRATCH STACK_END end ∷ Beq SCRATCH 0 1 ∷ J ((setting_in setting.now).exit StackOut) ∷ []) result }
 {
     emit(
@@ -89,7 +85,7 @@ fn emit_limit(setting: &CodeSetting, end: u32, code: &mut Vec<u32>) -> Result<()
         Inst::Sltu {
             rd: SCRATCH,
             rs: STACK_END,
-            rt: end,
+            rt: end.number(),
         },
     )?;
     emit(
@@ -111,10 +107,9 @@ fn emit_limit(setting: &CodeSetting, end: u32, code: &mut Vec<u32>) -> Result<()
 /// Appends the test of the stack, which brings the end of the new frame into a register.
 pub fn emit_stack_test(
     setting: &CodeSetting,
-    register: u32,
+    register: Register,
     code: &mut Vec<u32>,
 ) -> Result<(), AllocError>
-    requires { register < 32 }
     ensures { Appends code.old.items code.new.items (stack_test (setting_in setting.now) register) result }
 {
     emit_large(setting, code)?;
@@ -132,17 +127,23 @@ fn emit_kept(
     ensures { Appends code.old.items code.new.items (kept_code (setting_in setting.now) access calling) result }
 {
     if calling {
-        return emit_word(setting, access, RETURN, SCRATCH, 0, code);
+        return emit_word(
+            setting,
+            access,
+            Register::new(RETURN),
+            Register::new(SCRATCH),
+            0,
+            code,
+        );
     }
     Ok(())
 }
 
 /// The register of the variable or argument so many behind another.
-pub fn register_behind(first: u32, i: u64) -> u32
-    ensures value { result ≡ expressions.register_of_variable (first + i) }
-    ensures small { result < 32 }
+pub fn register_behind(first: u32, i: u64) -> Register
+    ensures { result ≡ expressions.register_of_variable (first + i) }
 {
-    (ARGUMENTS + first % 32 + (i % 32) as u32) % 32
+    Register::new((ARGUMENTS + first % 32 + (i % 32) as u32) % 32)
 }
 
 // Appends the stores of the arguments to the frame.
@@ -155,7 +156,7 @@ fn emit_params(setting: &CodeSetting, count: u32, code: &mut Vec<u32>) -> Result
             setting,
             Access::Store,
             register,
-            SCRATCH,
+            Register::new(SCRATCH),
             3 + u64::from(i),
             code,
         )?;
@@ -174,7 +175,14 @@ fn emit_zero(
     ensures { Appends code.old.items code.new.items (zero_code (setting_in setting.now) cleared variable) result }
 {
     if cleared {
-        return emit_word(setting, Access::Store, 0, SCRATCH, 3 + variable, code);
+        return emit_word(
+            setting,
+            Access::Store,
+            Register::new(0),
+            Register::new(SCRATCH),
+            3 + variable,
+            code,
+        );
     }
     Ok(())
 }
@@ -202,7 +210,8 @@ fn emit_zeros_loop(setting: &CodeSetting, first: u64, code: &mut Vec<u32>) -> Re
     requires { 3 + first < 2 ^ 64 }
     ensures { Appends code.old.items code.new.items (zeros_loop (setting_in setting.now) first) result }
 {
-    emit_word(setting, Access::Address, ANSWER, ANSWER, 3 + first, code)?;
+    let answer = Register::new(ANSWER);
+    emit_word(setting, Access::Address, answer, answer, 3 + first, code)?;
     emit_turns(code)
 }
 
@@ -261,7 +270,7 @@ fn emit_clear_one(cleared: bool, first: u32, i: u64, code: &mut Vec<u32>) -> Res
         return emit(
             code,
             Inst::Addu {
-                rd: register_behind(first, i),
+                rd: register_behind(first, i).number(),
                 rs: 0,
                 rt: 0,
             },
@@ -287,10 +296,16 @@ fn emit_kept_behind(access: Access, calling: bool, code: &mut Vec<u32>) -> Resul
 {
     if calling {
         let address = Address {
-            base: FRAME_END,
+            base: Register::new(FRAME_END),
             displacement: 0,
         };
-        return emit_access(code, access, RETURN, SCRATCH, address);
+        return emit_access(
+            code,
+            access,
+            Register::new(RETURN),
+            Register::new(SCRATCH),
+            address,
+        );
     }
     Ok(())
 }
@@ -307,7 +322,7 @@ fn emit_frame_entry(
     requires { 3 + params + words < 2 ^ 64 }
     ensures { Appends code.old.items code.new.items (frame_entry (setting_in setting.now) (cleared_in body.now) params words calling) result }
 {
-    emit_stack_test(setting, FRAME_END, code)?;
+    emit_stack_test(setting, Register::new(FRAME_END), code)?;
     emit_kept(setting, Access::Store, calling, code)?;
     emit_params(setting, params, code)?;
     emit_locals(setting, body, words, u64::from(params), code)
@@ -323,7 +338,7 @@ fn emit_register_entry(
 ) -> Result<(), AllocError>
     ensures { Appends code.old.items code.new.items (register_entry_in setting.now body.now params calling) result }
 {
-    emit_stack_test(setting, SCRATCH, code)?;
+    emit_stack_test(setting, Register::new(SCRATCH), code)?;
     emit_kept_behind(Access::Store, calling, code)?;
     emit_clear(body, params, code)
 }
@@ -355,7 +370,8 @@ fn emit_frame_return(
     ensures { Appends code.old.items code.new.items (frame_return (setting_in setting.now) calling) result }
 {
     emit_kept(setting, Access::Load, calling, code)?;
-    emit_word(setting, Access::Address, FRAME_END, FRAME_END, 0, code)?;
+    let end = Register::new(FRAME_END);
+    emit_word(setting, Access::Address, end, end, 0, code)?;
     emit(code, Inst::Jr { rs: RETURN })
 }
 

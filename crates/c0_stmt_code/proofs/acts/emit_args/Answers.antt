@@ -17,7 +17,7 @@ use Rattle.c0_stmt_code.proofs.acts.emit_args.Goals as goal
 pub loop-i-preserved : goal.loop-i-preserved
 loop-i-preserved c =
     let dropped = drop_more c.args.args.now c.loop-i.i c.index-args-i.result c.loop-i-test.true ∙ ap (λ (x : TypedExpr). x ∷ drop (c.loop-i.i + 1) c.args.args.now) (sym c.index-args-i.is) in
-    let register : c.register_behind-register.result ≡ register_of_variable c.loop-i.i = c.register_behind-register.ensures.value ∙ ap register_of_variable (omega arith) in
+    let register : c.register_behind-register.result ≡ register_of_variable c.loop-i.i = c.register_behind-register.ensures ∙ ap register_of_variable (omega arith) in
     let behind : c.with-here.result ≡ setting_with c.loop-i.here (overwritten c.loop-i.here.facts c.loop-i.i) = c.with-here.ensures ∙ ap (λ (f : Facts). setting_with c.loop-i.here f) c.overwritten.ensures in
     let one = appended c.loop-i.code.items c.emit_value.new.code.items _ _ _ _ (args_next (setting_in c.loop-i.here) c.args.args.now c.loop-i.i c.index-args-i.result dropped)
     (c.in_ok-emit_value.ensures ∙ ap (λ (r : ℕ). c.loop-i.code.items ++ map encoding (typed_value (setting_in c.loop-i.here) (typed_expr_view c.index-args-i.result) r EXPRESSIONS)) register) c.loop-i.invariant in

@@ -22,4 +22,4 @@ returns c =
     let P : CodeSetting → Type 0 = λ s. Appends c.emit.new.code.items c.emit_answer.new.code.items (typed_answer (setting_in s) (typed_expr_view c.args.place.now)) c.emit_answer.result in
     three_appended c.args.code.now.items c.emit_constant.new.code.items c.emit.new.code.items c.emit_answer.new.code.items (constant_code ANSWER (c.args.words % 2 ^ 32))
     (typed_answer (setting_in (setting_with c.args.setting.now (renewed c.args.setting.now.facts))) (typed_expr_view c.args.place.now)) (Jal (links_of c.args.addresses.now).new_object) c.emit_answer.result
-    (c.in_ok-emit_constant.ensures.appended ∙ ap (λ (n : ℕ). c.args.code.now.items ++ map encoding (constant_code ANSWER n)) fits) c.in_ok-emit.ensures.appended (subst P behind c.emit_answer.ensures)
+    (c.in_ok-emit_constant.ensures.appended ∙ ap (λ (q : ℕ). c.args.code.now.items ++ map encoding (constant_code q c.args.words)) c.new.ensures ∙ ap (λ (n : ℕ). c.args.code.now.items ++ map encoding (constant_code ANSWER n)) fits) c.in_ok-emit.ensures.appended (subst P behind c.emit_answer.ensures)
