@@ -30,7 +30,7 @@ use Rattle.boot_turns.specs.JournalText.{RowsFollow}
 use Rattle.boot_turns.specs.Tracing.{Traced, tracer_at, tracing}
 use Rattle.boot_turns.specs.StepScript.{step_script, rows_script, steps_script}
 use Rattle.boot_turns.specs.RowScripts.{of_run, ArePages, followed_script}
-use Rattle.boot_turns.specs.LoopScripts.{InSteps, traced_run, CallsOf, StepsCall}
+use Rattle.boot_turns.specs.LoopScripts.{InSteps, traced_run, StepsMakeCalls, StepsCall}
 use Rattle.boot_turns.proofs.StepEvents.{told_as_some}
 use Rattle.boot_turns.proofs.ShownRows.{scripts-same, counted_none}
 use Rattle.boot_turns.proofs.SomeCalls.{untold, made_untold, of_both, untold_both, of_due, of_followed}
@@ -110,7 +110,7 @@ over text told shelf o d = record { shelf = shelf; sink = output text o; disk = 
 
 module _ {O D : Type 0} (x : device.Environment) (text : sink_of.Ghosts O) (told : sectors_of.Ghosts D) (m : Map) (held : Held) (kept : Option Tracer) (o : O) (d : D) where
   -- no step is made
-  pub no_steps : CallsOf {T = Unit {0}} x text told m held kept (o, d) (o, d) 0 (Ok tt)
+  pub no_steps : StepsMakeCalls {T = Unit {0}} x text told m held kept (o, d) (o, d) 0 (Ok tt)
   no_steps = record {
     untraced = λ none s t at shelf. done _;
     traced = λ c y s late limit u t from map_is low high at traced p turns steps shown shelf. done _;
@@ -119,7 +119,7 @@ module _ {O D : Type 0} (x : device.Environment) (text : sink_of.Ghosts O) (told
 
   -- the same, by another answer that blames the same
   pub as_made : {R T : Type 0} (before : Result R RunFault) (result : Result T RunFault) (o1 : O) (d1 : D) (n k : ℕ) → k ≡ n → blame of_run before ≡ blame of_run result →
-      CallsOf x text told m held kept (o, d) (o1, d1) n before → CallsOf x text told m held kept (o, d) (o1, d1) k result
+      StepsMakeCalls x text told m held kept (o, d) (o1, d1) n before → StepsMakeCalls x text told m held kept (o, d) (o1, d1) k result
   as_made before result o1 d1 n k many same made = rw many (record {
     untraced = λ none s t at shelf. subst (InSteps (λ i. script_of_step x (run x s (t + i))) n (over text told shelf o d) (over text told shelf o1 d1)) same (made.untraced none s t at shelf);
     traced = λ c y s late limit u t from map_is low high at traced p turns steps shown shelf.
@@ -135,7 +135,7 @@ module _ {O D : Type 0} (x : device.Environment) (text : sink_of.Ghosts O) (told
 
   -- ONE STEP, whose transfer failed
   pub step_broken : {T : Type 0} (d1 : D) → ((ss : List (List ℕ)) (shelf : Files) → Performs (script_of_step x (state_of held ss)) (over text told shelf o d) (over text told shelf o d1) (Some TheDisk)) →
-      CallsOf {T = T} x text told m held kept (o, d) (o, d1) 1 (Err Disk)
+      StepsMakeCalls {T = T} x text told m held kept (o, d) (o, d1) 1 (Err Disk)
   step_broken d1 h = record {
     untraced = λ none s t at shelf. in_one (λ i. script_of_step x (run x s (t + i))) (over text told shelf o d) (over text told shelf o d1) (Some TheDisk) (transfer_made d1 (Some TheDisk) h s t at shelf);
     traced = λ c y s late limit u t from map_is low high at traced p turns steps shown shelf.
@@ -147,7 +147,7 @@ module _ {O D : Type 0} (x : device.Environment) (text : sink_of.Ghosts O) (told
 
   -- or which was done where no user is traced
   pub step_plain : {T : Type 0} (v : T) (d1 : D) → kept ≡ None → ((ss : List (List ℕ)) (shelf : Files) → Performs (script_of_step x (state_of held ss)) (over text told shelf o d) (over text told shelf o d1) None) →
-      CallsOf {T = T} x text told m held kept (o, d) (o, d1) 1 (Ok v)
+      StepsMakeCalls {T = T} x text told m held kept (o, d) (o, d1) 1 (Ok v)
   step_plain v d1 untraced h = record {
     untraced = λ none s t at shelf. in_one (λ i. script_of_step x (run x s (t + i))) (over text told shelf o d) (over text told shelf o d1) None (transfer_made d1 None h s t at shelf);
     traced = λ c y s late limit u t from map_is low high at traced p turns steps shown shelf.
@@ -160,7 +160,7 @@ module _ {O D : Type 0} (x : device.Environment) (text : sink_of.Ghosts O) (told
       state_seen (told.sectors d1) mid ≡ option_map (step x) (state_seen (told.sectors d) held) → current ≡ slice_index held.hardware.memory current_at → IfSome (state_seen (told.sectors d) held) (λ s. began ≡ begins_turn x s) →
       ((ss : List (List ℕ)) (shelf : Files) → Performs (script_of_step x (state_of held ss)) (over text told shelf o d) (over text told shelf o d1) None) →
       ((pages : Option Paged) → ArePages (told.sectors d1) mid m pages → (shelf : Files) → Performs (followed_script m (state_of mid []) pages k current began) (over text told shelf o d1) (over text told shelf o2 d2) (blame of_run result)) →
-      CallsOf x text told m held kept (o, d) (o2, d2) 1 result
+      StepsMakeCalls x text told m held kept (o, d) (o2, d2) 1 result
   step_follows grow f tell on k is mid o2 d1 d2 current began result ran current_is began_is moved rows = rw is (record {
     untraced = λ none s t at shelf. absurd (let e : ◌≡◌ {A = Option Tracer} (Some k) None = none in cc);
     traced = λ c y s late limit u t from map_is low high at traced p turns steps shown shelf.
@@ -184,21 +184,21 @@ module _ {O D : Type 0} (x : device.Environment) (text : sink_of.Ghosts O) (told
   pub step_counts : {T : Type 0} (grow : (c : CUnit) → TracesGrow (IsTypedState c)) (f : RowsFollow) (tell : WordsTell) (on : held.hardware.off ≡ None) (mid : Held) (d1 : D) (current : ℕ) (v : T) →
       state_seen (told.sectors d1) mid ≡ option_map (step x) (state_seen (told.sectors d) held) → current ≡ slice_index held.hardware.memory current_at → IfSome (state_seen (told.sectors d) held) (λ s. true ≡ begins_turn x s) →
       slice_index mid.hardware.special MODE ≡ 1 → ((ss : List (List ℕ)) (shelf : Files) → Performs (script_of_step x (state_of held ss)) (over text told shelf o d) (over text told shelf o d1) None) →
-      CallsOf {T = T} x text told m held kept (o, d) (o, d1) 1 (Ok v)
+      StepsMakeCalls {T = T} x text told m held kept (o, d) (o, d1) 1 (Ok v)
   step_counts grow f tell on mid d1 current v ran current_is began_is mode moved = by kept refl
     where
-      by : (a : Option Tracer) → kept ≡ a → CallsOf x text told m held kept (o, d) (o, d1) 1 (Ok v)
+      by : (a : Option Tracer) → kept ≡ a → StepsMakeCalls x text told m held kept (o, d) (o, d1) 1 (Ok v)
       by None is = step_plain v d1 is moved
       by (Some k) is = step_follows grow f tell on k is mid o d1 d1 current true (Ok v) ran current_is began_is moved (λ pages are shelf.
           same_script [] (followed_script m (state_of mid []) pages k current true) (over text told shelf o d1) (over text told shelf o d1) None
           (counted_none k.user k.steps current (note (state_of mid [])) (ap (λ n. not (n == 1)) mode)) (done _))
 
-  module _ (o1 : O) (d1 : D) (n : ℕ) (first_steps : CallsOf {T = Unit {0}} x text told m held kept (o, d) (o1, d1) n (Ok tt)) where
+  module _ (o1 : O) (d1 : D) (n : ℕ) (first_steps : StepsMakeCalls {T = Unit {0}} x text told m held kept (o, d) (o1, d1) n (Ok tt)) where
     module _ (mid : Held) (at_mid : (s : State) (t : ℕ) → state_seen (told.sectors d) held ≡ Some (run x s t) → state_seen (told.sectors d1) mid ≡ Some (run x s (t + n))) where
       -- steps behind them
       pub steps_then : {T : Type 0} (result : Result T RunFault) (rekept : Option Tracer) (o2 : O) (d2 : D) (k all : ℕ) → all ≡ n + k → (kept ≡ None → rekept ≡ None) →
           ((b : Booted x m (state_seen (told.sectors d) held) kept) → Traced x b.y b.s b.u (b.t + n) rekept) →
-          CallsOf x text told m mid rekept (o1, d1) (o2, d2) k result → CallsOf x text told m held kept (o, d) (o2, d2) all result
+          StepsMakeCalls x text told m mid rekept (o1, d1) (o2, d2) k result → StepsMakeCalls x text told m held kept (o, d) (o2, d2) all result
       steps_then result rekept o2 d2 k all many none_kept traced_mid then = rw many (record {
         untraced = λ none s t at shelf.
             in_both (λ j. script_of_step x (run x s j)) t n k (over text told shelf o d) (over text told shelf o1 d1) (over text told shelf o2 d2) (blame of_run result)
@@ -218,7 +218,7 @@ module _ {O D : Type 0} (x : device.Environment) (text : sink_of.Ghosts O) (told
 
       -- a stretch behind them, in which no transfer is due; there is none where a user is traced
       pub stretch_then : (new : Held) (k all : ℕ) → all ≡ n + k → ((ss : List (List ℕ)) → Stretch x (state_of mid ss) k (state_of new ss)) → (IsSome kept → k ≡ 0) →
-          CallsOf {T = Unit {0}} x text told m held kept (o, d) (o1, d1) all (Ok tt)
+          StepsMakeCalls {T = Unit {0}} x text told m held kept (o, d) (o1, d1) all (Ok tt)
       stretch_then new k all many stretch none_traced = rw many (record {
         untraced = λ none s t at shelf.
             let w = told_as_some (told.sectors d1) mid (run x s (t + n)) (at_mid s t at) in
@@ -263,4 +263,4 @@ one_more text told m start now kept rekept o o1 o2 d d1 d2 budget left result le
     steps_then x text told m start kept o d o1 d1 (budget - left) so_far now
     (at_made x (state_seen (told.sectors d) start) (state_seen (told.sectors d1) now) budget left less ran) result rekept o2 d2 1 (budget - (left - 1)) (omega (arith, less, some)) none
     (traced_made x m (state_seen (told.sectors d) start) (state_seen (told.sectors d1) now) budget left kept rekept less tracks)
-    (subst (λ z. CallsOf z text told m now rekept (o1, d1) (o2, d2) 1 result) (ap₂ outside_of rows size) made)
+    (subst (λ z. StepsMakeCalls z text told m now rekept (o1, d1) (o2, d2) 1 result) (ap₂ outside_of rows size) made)

@@ -70,8 +70,8 @@ abbrev pub SomeMake : {O D T : Type 0} → sink_of.Ghosts O → sectors_of.Ghost
 SomeMake text told old new result = (script : List Call) × AreOfRun script × Makes text told old new script of_run result
 
 -- THE CALLS OF n STEPS, with what was kept of a trace before them: where no user is traced, where one is, and over any disk
-pub record CallsOf {O D T : Type 0} (x : Environment) (text : sink_of.Ghosts O) (told : sectors_of.Ghosts D) (m : Map) (held : Held) (kept : Option Tracer)
-    (old new : O × D) (n : ℕ) (result : Result T RunFault) : Type 0 where
+pub record StepsMakeCalls {O D T : Type 0} (x : Environment) (text : sink_of.Ghosts O) (told : sectors_of.Ghosts D) (m : Map) (held : Held)
+    (kept : Option Tracer) (old new : O × D) (n : ℕ) (result : Result T RunFault) : Type 0 where
   pub untraced : kept ≡ None → StepsMake x text told held old new n result
   pub traced : StepsTrace x text told m held kept old new n result
   pub some : SomeMake text told old new result
@@ -79,4 +79,4 @@ pub record CallsOf {O D T : Type 0} (x : Environment) (text : sink_of.Ghosts O) 
 -- over the disk as it was
 abbrev pub StepsCall : {O D T : Type 0} → sink_of.Ghosts O → sectors_of.Ghosts D → Map → Held → Option Tracer → (old new : O × D) → (n : ℕ) →
     Result T RunFault → Type 0
-StepsCall text told m held kept (out, disk) new n result = CallsOf (outside_of held.rows (told.size disk)) text told m held kept (out, disk) new n result
+StepsCall text told m held kept (out, disk) new n result = StepsMakeCalls (outside_of held.rows (told.size disk)) text told m held kept (out, disk) new n result

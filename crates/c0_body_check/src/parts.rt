@@ -5,7 +5,7 @@ ghost use Rattle.c0_meaning.specs.Expression as expression;
 ghost use Rattle.c0_meaning.specs.Statement as spec;
 ghost use Rattle.c0_tree.specs.View.{expr_view};
 ghost use Rattle.c0_meaning.specs.Form.{found_view};
-ghost use Rattle.c0_body_check.specs.Check.{SettlesType, by_both};
+ghost use Rattle.c0_body_check.specs.Check.{IsByRule, by_both};
 ghost use Rattle.c0_name_check.specs.Met.{Meets, met_view};
 ghost use Rattle.c0_body_check.specs.Scope.{Knows, env_view};
 ghost use Rattle.c0_body_check.specs.Stmts.{ChecksGiven, ChecksLeft, ChecksTested};
@@ -51,7 +51,7 @@ pub fn check_tested(scope: &Scope<'_>, want: Found<'_>, expr: &mut Expr, least: 
 
 // A left side: whether it is a place, where it stands, and its type.
 fn left<'a>(place: bool, span: Span, found: Found<'a>, least: &mut Option<Fault>) -> Found<'a>
-    ensures { SettlesType (found_view result) (met_view least.old) (met_view least.new) (expression.rule_on_one (found_view found.entry) (spec.left_rule place span)) }
+    ensures { IsByRule result least.old least.new (expression.rule_on_one (found_view found.entry) (spec.left_rule place span)) }
 {
     let form = found.form();
     if is_nothing(form) {

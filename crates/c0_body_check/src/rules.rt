@@ -7,8 +7,8 @@ ghost use Rattle.c0_meaning.specs.Fault.{fault};
 ghost use Rattle.c0_meaning.specs.Ty.{bool, int, is_scalar};
 ghost use Rattle.c0_tree.specs.View.{name_view};
 ghost use Rattle.c0_meaning.specs.Form.{form_view, found_view, is_declared};
-ghost use Rattle.c0_body_check.specs.Check.{IsByRule, SettlesType, by_both, by_one};
-ghost use Rattle.c0_name_check.specs.Met.{met_view, mistake_number};
+ghost use Rattle.c0_body_check.specs.Check.{IsByRule, by_both, by_one};
+ghost use Rattle.c0_name_check.specs.Met.{mistake_number};
 ghost use Rattle.c0_body_check.specs.Scope.{Knows, env_view, found_in, typed_view};
 
 use crate::scope::{Scope, find_field, find_variable};
@@ -18,7 +18,7 @@ use c0_tree::{BinaryOp, Decl, Kind, Name, Span, UnaryOp};
 
 /// A mistake leaves no type.
 pub fn wrong<'a>(least: &mut Option<Fault>, mistake: Mistake, span: Span) -> Found<'a>
-    ensures settles { SettlesType (found_view result) (met_view least.old) (met_view least.new) (spec.wrong (fault (mistake_number mistake) span)) }
+    ensures settles { IsByRule result least.old least.new (spec.wrong (fault (mistake_number mistake) span)) }
     ensures declared { IsTrue (is_declared result) }
 {
     meet_at(least, mistake, span);
@@ -124,7 +124,7 @@ pub fn number_field(name: &mut Name, found: Option<(u32, &Decl)>)
 
 // A field that was sought.
 fn sought<'a>(at: Span, found: Option<(u32, &'a Decl)>, least: &mut Option<Fault>) -> Found<'a>
-    ensures settles { SettlesType (found_view result) (met_view least.old) (met_view least.new) (spec.sought_rule at (found_in typed_view found.entry)) }
+    ensures settles { IsByRule result least.old least.new (spec.sought_rule at (found_in typed_view found.entry)) }
     ensures declared { IsTrue (is_declared result) }
 {
     match found {
@@ -193,7 +193,7 @@ pub fn arrow<'a>(
 
 /// `*e`.
 pub fn deref<'a>(span: Span, part: Form<'a>, least: &mut Option<Fault>) -> Found<'a>
-    ensures settles { SettlesType (found_view result) (met_view least.old) (met_view least.new) (spec.rule_on_one (form_view part.entry) (spec.deref_rule span)) }
+    ensures settles { IsByRule result least.old least.new (spec.rule_on_one (form_view part.entry) (spec.deref_rule span)) }
     ensures declared { IsTrue (is_declared result) }
 {
     match part {
@@ -212,7 +212,7 @@ pub fn address<'a>(
     least: &mut Option<Fault>,
 ) -> Found<'a>
     requires { IsTrue place → IsTrue (is_declared part) }
-    ensures { SettlesType (found_view result) (met_view least.old) (met_view least.new) (spec.rule_on_one (found_view part.entry) (spec.address_rule place local at)) }
+    ensures { IsByRule result least.old least.new (spec.rule_on_one (found_view part.entry) (spec.address_rule place local at)) }
 {
     match part {
         Found::Nothing => Found::Nothing,
@@ -233,7 +233,7 @@ pub fn address<'a>(
 
 /// `-e` and `!e`.
 pub fn unary<'a>(span: Span, op: UnaryOp, part: Form<'_>, least: &mut Option<Fault>) -> Found<'a>
-    ensures { SettlesType (found_view result) (met_view least.old) (met_view least.new) (spec.rule_on_one (form_view part.entry) (spec.unary_rule span op)) }
+    ensures { IsByRule result least.old least.new (spec.rule_on_one (form_view part.entry) (spec.unary_rule span op)) }
 {
     match op {
         UnaryOp::Negate => match part {

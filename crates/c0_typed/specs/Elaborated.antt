@@ -1,6 +1,6 @@
--- What an expression is elaborated to.
-use Rattle.std.specs.Prelude.{◌≡◌, ℕ, true, if◌then◌else◌, List, Option, None, option_map}
-use Rattle.c0_tree.specs.Tree.{CExpr}
+-- What an expression, and a function, is elaborated to.
+use Rattle.std.specs.Prelude.{◌≡◌, ℕ, true, if◌then◌else◌, IfOk, List, Option, None, Result, option_map}
+use Rattle.c0_tree.specs.Tree.{CExpr, CUnit}
 use Rattle.c0_meaning.specs.Env.{Shape}
 use Rattle.c0_meaning.specs.Expression.{is_lvalue, target as behind}
 use Rattle.c0_meaning.specs.Form.{found_view, is_declared}
@@ -9,10 +9,12 @@ use Rattle.c0_meaning.specs.Ty.{Ty, pointer}
 use Rattle.c0_meaning.specs.TypeAt.{IsFoundResolved, element, field_type, type_at}
 use Rattle.c0_meaning.specs.declared.form.Found.{Found}
 use Rattle.c0_typed.specs.declared.elaborated.Elaborated.{Elaborated}
+use Rattle.c0_typed.specs.declared.tree.TypedFunction.{TypedFunction}
+use Rattle.c0_typed.specs.Seen.{OfFunction}
 use Rattle.c0_typed.specs.Tree.{TExpr, address, part, target}
 use Rattle.c0_typed.specs.SeenEnv.{env_seen, unit_seen}
-use Rattle.c0_typed.specs.Typed.{elements_in, field_bytes, typed_element, typed_of_expr}
-use Rattle.c0_typed.specs.View.{typed_expr_view}
+use Rattle.c0_typed.specs.Typed.{elements_in, field_bytes, typed_element, typed_of_expr, typed_of_function}
+use Rattle.c0_typed.specs.View.{typed_expr_view, typed_function_view}
 use Rattle.c0_typed.specs.declared.seen_function.SeenFunction.{SeenFunction}
 
 -- it has this tree and this type
@@ -57,3 +59,7 @@ pub record IsElaborated (f : SeenFunction) (e : CExpr) (x : Elaborated) : Type 0
   pub ty : found_view x.ty ≡ type_at (env_seen f) e
   pub declared : is_lvalue e ≡ true → is_declared x.ty ≡ true
   pub resolved : IsFoundResolved (shapes (unit_seen f)) x.ty
+
+-- THE TYPED TREE of the function of a number of a unit
+abbrev pub TypesFunction : {E : Type 0} → CUnit → ℕ → Result TypedFunction E → Type 0
+TypesFunction u number result = OfFunction u number (λ f. IfOk result (λ x. typed_function_view x ≡ typed_of_function u f))

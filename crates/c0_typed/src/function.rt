@@ -5,10 +5,10 @@ ghost use Rattle.std.specs.List.{All};
 ghost use Rattle.c0_tree.specs.View.{body_view, decl_view, function_view, unit_view};
 ghost use Rattle.c0_meaning.specs.Limits.{locals_of};
 ghost use Rattle.c0_meaning.specs.Sound.{IsSized, IsSizedFunction};
-ghost use Rattle.c0_typed.specs.Seen.{OfFunction};
+ghost use Rattle.c0_typed.specs.Elaborated.{TypesFunction};
 ghost use Rattle.c0_typed.specs.SeenEnv.{env_seen};
 ghost use Rattle.c0_typed.specs.Sized.{IsSizedBody};
-ghost use Rattle.c0_typed.specs.Typed.{typed_in, typed_of_body, typed_of_function, typed_of_local};
+ghost use Rattle.c0_typed.specs.Typed.{typed_in, typed_of_body, typed_of_local};
 ghost use Rattle.c0_typed.specs.View.{typed_body_view, typed_function_view};
 
 use crate::expression::typed_expr;
@@ -98,7 +98,7 @@ pub fn typed_function(
     number: u32,
 ) -> Result<TypedFunction, AllocError>
     requires { number < length (unit_view unit.now.unit.now).functions }
-    ensures { OfFunction (unit_view unit.now.unit.now) number (λ f. IfOk result (λ x. typed_function_view x ≡ typed_of_function (unit_view unit.now.unit.now) f)) }
+    ensures { TypesFunction (unit_view unit.now.unit.now) number result }
 {
     bodies_are_sized();
     well_formed_units_are_sized();

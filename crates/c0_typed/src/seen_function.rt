@@ -2,10 +2,7 @@
 
 ghost use Rattle.std.specs.Prelude.{◌≡◌, ◌<◌, length, IfOk};
 ghost use Rattle.c0_tree.specs.View.{unit_view};
-ghost use Rattle.c0_meaning.specs.Offsets.{offsets};
-ghost use Rattle.c0_meaning.specs.Sound.{shapes};
-ghost use Rattle.c0_meaning.specs.TypedState.{variable_types};
-ghost use Rattle.c0_typed.specs.Seen.{OfFunction};
+ghost use Rattle.c0_typed.specs.Seen.{HasOffsets};
 
 use crate::seen_unit::SeenUnit;
 use c0_meaning::variable_offsets;
@@ -21,7 +18,7 @@ pub struct SeenFunction<'a> {
     /// The words before each parameter and local.
     pub variables: Vec<u64>,
     ghost there: { number < length (unit_view unit.now.unit.now).functions },
-    ghost variables_are: { OfFunction (unit_view unit.now.unit.now) number (λ f. variables.items ≡ offsets (shapes (unit_view unit.now.unit.now)) (variable_types f)) },
+    ghost variables_are: { HasOffsets (unit_view unit.now.unit.now) number variables.items },
 }
 
 impl<'a> SeenFunction<'a> {
