@@ -171,8 +171,8 @@ class Lines(unittest.TestCase):
 
     def test_lines_to_believe(self):
         page, decisions = pages.page('listings/BELIEVED.md'), ' '.join(pages.page('DECISIONS.md').split())
-        said = re.search(r'skeleton of headline, completeness and isolation has ([\d,]+) \(.*?aim.*? that of `script` alone ([\d,]+) \(aim .*? that of all clauses of `run` ([\d,]+)\. '
-                         r'All that these reach is ([\d,]+) \(.*?aim [\d,]+\), ([\d,]+) without the last tier; with the laws it is ([\d,]+)\.', decisions)
+        said = re.search(r'skeleton of headline, completeness and isolation has ([\d,]+) \(.*?aim.*? that of `script` alone ([\d,]+) \(aim .*? that of all clauses of `run` ([\d,]+) \([\d,]+\)\. '
+                         r'All that these reach is ([\d,]+) \(.*?aim [\d,]+\), ([\d,]+) without the last tier .*? With the laws it is ([\d,]+)\.', decisions)
         headline = numbers(re.search(r'^\| the headline, completeness and isolation \| [\d,]+ \| [\d,]+ \| ([\d,]+) \|$', page, re.M))
         clauses = numbers(re.search(r'^The clauses of `run` alone: ([\d,]+) lines, ([\d,]+) without the last tier; the skeleton of `script` alone: ([\d,]+)\.$', page, re.M))
         skeleton = numbers(re.search(r'^\*\*The skeleton: .*\*\* \(([\d,]+) lines\)$', page, re.M))
@@ -216,13 +216,18 @@ class Edits(unittest.TestCase):
     """What docs/promises/tests.md says of the must-fail edits: which crates have none, and that no crate has more than six."""
 
     def test_the_crates_without_edits_are_those_of_the_page(self):
-        said = re.search(r'- What the must-fail edits show:.*?\. The six of', ' '.join(pages.page('promises/tests.md').split())).group(0)
-        without = set()
-        for crate in re.findall(r'^([a-z0-9_]+):', stored('..', 'crates.txt'), re.MULTILINE):
+        page = ' '.join(pages.page('promises/tests.md').split())
+        said = re.search(r'- None is in .*? laws alone\.', page).group(0)
+        crates = re.findall(r'^([a-z0-9_]+):', stored('..', 'crates.txt'), re.MULTILINE)
+        without, counts = set(), []
+        for crate in crates:
             folder = os.path.join(pages.TOP, 'crates', crate)
             edits = os.listdir(os.path.join(folder, 'must-fail')) if os.path.isdir(os.path.join(folder, 'must-fail')) else []
             self.assertLessEqual(len(edits), 6, crate)
+            counts.append(len(edits))
             # programs, and what only they stand on, have none
             if not edits and crate != 'case_file' and not os.path.exists(os.path.join(folder, 'stdout')):
                 without.add(crate)
         self.assertEqual(set(re.findall(r'[a-z0-9]+_\w+', said)), without)
+        how_many = re.search(r'`rt ci` tries all (\d+), at most six a crate, in (\d+) of the (\d+) crates', page)
+        self.assertEqual(numbers(how_many), [sum(counts), sum(count > 0 for count in counts), len(crates)])

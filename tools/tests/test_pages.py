@@ -90,7 +90,7 @@ class WordsTable(unittest.TestCase):
 
 
 class NamedFiles(unittest.TestCase):
-    """Tables of VERIFYING and COMPILER that say in which file a lemma or a proof stands."""
+    """Tables of VERIFYING and promises/compiler that say in which file a lemma or a proof stands."""
 
     def rows(self, page, head):
         lines = stored('docs', page).split('\n')
@@ -109,7 +109,7 @@ class NamedFiles(unittest.TestCase):
                     self.assertRegex(stands, r'\bpub %s\b' % lemma, name)
 
     def test_proofs_of_the_compiler_stand_where_they_are_said_to(self):
-        rows = self.rows('COMPILER.md', ['What', 'By which function', 'Stated in `specs/` of its crate', 'Its proof, in `proofs/`'])
+        rows = self.rows('promises/compiler.md', ['What', 'By which function', 'Stated in `specs/` of its crate', 'Its proof, in `proofs/`'])
         self.assertGreater(len(rows), 5)
         for _, by, specs, proofs in rows:
             crates = [os.path.join(pages.TOP, 'crates', name) for name in re.findall(r'\((\w+)[,)]', by)]

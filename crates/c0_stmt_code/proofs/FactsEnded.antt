@@ -42,26 +42,31 @@ in_none false false x y e h = refl
 pub in_no_register : (f : Facts) (n : ℕ) → register_holding (assigned_to f n) n ≡ None
 in_no_register f n = in_none _ _ _ _ (answer_gone f.answer n) (and_right (nat_lt n 8) (get_or (set f.params n false) n false) (cleared f.params n))
 
--- an expression that is followed says nothing of parameters
+-- an expression that is followed says nothing of parameters, nor of an answer
 with_params : (f : Facts) (o : Option ℕ) → (with_sure f o).params ≡ f.params
 with_params f None = refl
 with_params f (Some n) = refl
 
-followed_params : (e : TExpr) (f : Facts) → (facts_followed e f).params ≡ f.params
-followed_params (global k) f = refl
-followed_params (local n w) f = refl
-followed_params (part p k) f = followed_params p f
-followed_params (element p i x) f = followed_params i (facts_followed p f) ∙ followed_params p f
-followed_params (target p) f = with_params (facts_followed p f) (variable_in p) ∙ followed_params p f
-followed_params (constant k) f = refl
-followed_params (address p) f = followed_params p f
-followed_params (negative e) f = followed_params e f
-followed_params (negation e) f = followed_params e f
-followed_params (plain o a b) f = followed_params b (facts_followed a f) ∙ followed_params a f
-followed_params (quotient a b) f = followed_params b (facts_followed a f) ∙ followed_params a f
-followed_params (remainder a b) f = followed_params b (facts_followed a f) ∙ followed_params a f
-followed_params (both a b) f = followed_params a f
-followed_params (either a b) f = followed_params a f
+with_answer : (f : Facts) (o : Option ℕ) → (with_sure f o).answer ≡ f.answer
+with_answer f None = refl
+with_answer f (Some n) = refl
+
+followed_same : {A : Type 0} (field : Facts → A) → ((f : Facts) (o : Option ℕ) → field (with_sure f o) ≡ field f) → (e : TExpr) (f : Facts)
+    → field (facts_followed e f) ≡ field f
+followed_same field stays (global k) f = refl
+followed_same field stays (local n w) f = refl
+followed_same field stays (part p k) f = followed_same field stays p f
+followed_same field stays (element p i x) f = followed_same field stays i (facts_followed p f) ∙ followed_same field stays p f
+followed_same field stays (target p) f = stays (facts_followed p f) (variable_in p) ∙ followed_same field stays p f
+followed_same field stays (constant k) f = refl
+followed_same field stays (address p) f = followed_same field stays p f
+followed_same field stays (negative e) f = followed_same field stays e f
+followed_same field stays (negation e) f = followed_same field stays e f
+followed_same field stays (plain o a b) f = followed_same field stays b (facts_followed a f) ∙ followed_same field stays a f
+followed_same field stays (quotient a b) f = followed_same field stays b (facts_followed a f) ∙ followed_same field stays a f
+followed_same field stays (remainder a b) f = followed_same field stays b (facts_followed a f) ∙ followed_same field stays a f
+followed_same field stays (both a b) f = followed_same field stays a f
+followed_same field stays (either a b) f = followed_same field stays a f
 
 killed_params : (p : TExpr) (f : Facts) (n : ℕ) → get_or f.params n false ≡ false → get_or (kill_place p f).params n false ≡ false
 killed_params (local m w) f n e = still_cleared f.params m n e
@@ -75,6 +80,21 @@ answered_params false p f = refl
 pub no_param : (r : Bool) (p : TExpr) (f : Facts) (n : ℕ) → holds_param (answer_known r p (stored_facts p (facts_called f))) n ≡ false
 no_param r p f n =
     let read : List Bool → Bool = λ xs. get_or xs n false in
-    let found : get_or (facts_followed p (facts_called f)).params n false ≡ false = ap read (followed_params p (facts_called f)) ∙ all_cleared 8 n in
+    let found : get_or (facts_followed p (facts_called f)).params n false ≡ false = ap read (followed_same (λ g. g.params) with_params p (facts_called f)) ∙ all_cleared 8 n in
     and_right (nat_lt n 8) (get_or (answer_known r p (stored_facts p (facts_called f))).params n false)
     (ap read (answered_params r p (stored_facts p (facts_called f))) ∙ killed_params p (facts_followed p (facts_called f)) n found)
+
+-- an answer that goes to no variable isn't known behind its call
+killed_answer : (p : TExpr) (f : Facts) → variable_in p ≡ None → (kill_place p f).answer ≡ f.answer
+killed_answer (local n w) f e = absurd (cc)
+killed_answer p f e = refl
+
+known_answer : (r : Bool) (p : TExpr) (f : Facts) → variable_in p ≡ None → (answer_known r p f).answer ≡ f.answer
+known_answer true p f e = refl
+known_answer false (local n w) f e = absurd (cc)
+known_answer false p f e = refl
+
+pub answer_forgotten : (r : Bool) (p : TExpr) (f : Facts) → variable_in p ≡ None → (answer_known r p (stored_facts p (facts_called f))).answer ≡ None
+answer_forgotten r p f e =
+    known_answer r p (stored_facts p (facts_called f)) e ∙ killed_answer p (facts_followed p (facts_called f)) e
+    ∙ followed_same (λ g. g.answer) with_answer p (facts_called f)

@@ -6,7 +6,7 @@ use Rattle.c0_tree.specs.Tree.{CName, CTy, CExpr, assign, call, new, choice, loo
 use Rattle.c0_typed.specs.Tree.{TExpr, local}
 use Rattle.c0_typed.specs.Tree as typed
 use Rattle.c0_expr_code.specs.declared.facts.Facts.{Facts}
-use Rattle.c0_expr_code.specs.Facts.{holds_param, is_not_null, register_holding}
+use Rattle.c0_expr_code.specs.Facts.{holds_param, is_not_null, register_holding, variable_in}
 use Rattle.c0_expr_code.specs.Reads.{reads, reads_to_find}
 use Rattle.c0_stmt_code.specs.Behind.{facts_behind}
 use Rattle.c0_stmt_code.specs.Live.{any_reads, is_variable, is_live, are_live}
@@ -32,12 +32,13 @@ pub record ReadIsLive : Type 0 where
   pub body : (s : Span) (t : CExpr) (b : CStmts) (n : ℕ) (behind : Bool) → IsTrue (are_live b n false) → IsTrue (is_live (loop s t b) n behind)
   pub kept_by_loop : (s : Span) (t : CExpr) (b : CStmts) (n : ℕ) → IsTrue (is_live (loop s t b) n true)
 
--- A law: behind a call no parameter is known to stand in its register, and no variable in that of the answer, unless it was answered; and a variable
+-- A law: behind a call no parameter is known to stand in its register, and no variable in that of the answer where this went to none; and a variable
 -- that was assigned may be null, and stands in no register, unless it was a call's answer.
 pub record FactsEnd : Type 0 where
   pub called : (r : Bool) (k : Kind) (i : ℕ) (args : List TExpr) (p : TExpr) (f : Facts) (n : ℕ)
       → holds_param (facts_behind r (typed.call k i args p) f) n ≡ false
-  pub elsewhere : (r : Bool) (k : Kind) (i w : ℕ) (args : List TExpr) (f : Facts) → (facts_behind r (typed.call k i args (typed.global w)) f).answer ≡ None
+  pub elsewhere : (r : Bool) (k : Kind) (i : ℕ) (args : List TExpr) (p : TExpr) (f : Facts) → variable_in p ≡ None
+      → (facts_behind r (typed.call k i args p) f).answer ≡ None
   pub assigned : (r : Bool) (n w : ℕ) (v : TExpr) (f : Facts) → is_not_null (facts_behind r (typed.assign (local n w) v) f) n ≡ false
   pub answered : (r : Bool) (k : Kind) (i : ℕ) (args : List TExpr) (n w : ℕ) (f : Facts)
       → is_not_null (facts_behind r (typed.call k i args (local n w)) f) n ≡ false
