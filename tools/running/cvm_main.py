@@ -21,7 +21,9 @@ def main(words):
         return bad_words(['cvm: compiles kernels and boots them. The commands are:', *forms(),
                           'docs/FORMATS.md says what each takes and prints, and ./cvm --version which program runs.'])
     if words == ['--version']:
-        program.put_line('cvm: ' + released.version('the proved program of crates/cvm/out, which is built of these sources', proved.is_current()))
+        there = proved.is_current()
+        built = 'is built of these sources' if there else 'will be built of these sources first'
+        program.put_line('cvm: ' + released.version('the proved program of crates/cvm/out, which ' + built, there))
         return 0
     if command_words.fault(words) and not proved.is_there():
         return bad_words(explaining.explain(1, words, ['bad words']))

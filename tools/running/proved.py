@@ -34,7 +34,7 @@ def build():
     rt = shutil.which('rt')
     if rt is None:
         raise Bad("the Rattle toolchain's command, rt, is not on the path", 70)
-    say('cvm: building the program. A build proves every crate below it first, which is some 100 minutes of work for a processor; '
+    say('cvm: building the program. A build proves every crate below it first, which is some two hours of work for a processor; '
         './try FOLDER runs the sources at once, without a proof.')
     with tempfile.NamedTemporaryFile(prefix='cvm-build-', suffix='.log', delete=False) as log:
         try:

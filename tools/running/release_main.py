@@ -18,7 +18,7 @@ BUILT = os.path.join('crates', 'cvm', 'out', 'cvm')
 # How many bytes the packed program has at most.
 MOST = 1000000
 
-USAGE = '''release/build                  proves and builds the program from the sources alone, several crates at a time: some 100 minutes of work for a processor,
+USAGE = '''release/build                  proves and builds the program from the sources alone, several crates at a time: some two hours of work for a processor,
                                but for what a run of the toolchain on this machine has proved of the same files and kept
 release/build --anew           the same, and takes nothing that was kept
 release/build --from PROGRAM   takes the program that a gate or `rt run` has just built: crates/cvm/out/cvm of a clone with these sources
@@ -87,7 +87,7 @@ def build_in(room, rt, anew):
         rows = [row for row in file if row.partition(':')[0].split()[:1] and row.split(':')[0].split()[0] in below]
     with open(os.path.join(room, 'crates.txt'), 'w', encoding='utf-8') as file:
         file.writelines(rows)
-    say('release/build: proves and builds the program, which is some 100 minutes of work for a processor.')
+    say('release/build: proves and builds the program, which is some two hours of work for a processor.')
     with open(os.path.join(room, 'log'), 'w+', encoding='utf-8', errors='replace') as log:
         ran = subprocess.run([rt, 'ci', *anew], cwd=room, stdin=subprocess.DEVNULL, stdout=log, stderr=subprocess.STDOUT)
         log.seek(0)

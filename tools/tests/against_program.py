@@ -33,7 +33,7 @@ def followed():
 
 def page_programs():
     """The whole programs of docs/C0.md and docs/ASSEMBLER.md and the first kernels of docs/KERNELS.md and docs/C0.md, each with the kind of command that takes it."""
-    for page, kind, first in (('C0.md', 'kernel', '    int ticks;'), ('C0.md', 'kernel', '    struct call {'), ('KERNELS.md', 'kernel', '    int ticks;'), ('ASSEMBLER.md', 'user', '    # Adds')):
+    for page, kind, first in (('C0.md', 'kernel', '    int ticks;'), ('C0.md', 'kernel', '    struct call {'), ('KERNELS.md', 'kernel', '    int calls;'), ('ASSEMBLER.md', 'user', '    # Adds')):
         block = first + pages.page(page).partition(first)[2]
         lines = []
         for line in block.split('\n'):

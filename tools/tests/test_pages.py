@@ -72,6 +72,21 @@ def prose(page):
         yield '' if inside or re.match(r'\||    |!\[', line) else line
 
 
+class FirstSystem(unittest.TestCase):
+    """The folder with which docs/KERNELS.md begins is that of an example, and the row that it shows is printed of it."""
+
+    def test_it_is_the_example(self):
+        blocks = re.findall(r'(?:^    .*\n|^\n(?=    ))+', pages.page('KERNELS.md').split('## In short')[1].split('\n## ')[0], re.MULTILINE)
+        kernel, beside, command = [[line[4:] for line in block.strip('\n').split('\n')] for block in blocks]
+        self.assertEqual('\n'.join(kernel) + '\n', stored('examples', 'alternating', 'kernel.c0'))
+        self.assertEqual([line[:40].rstrip() for line in beside], stored('examples', 'alternating', 'user1.s').split('\n')[:-1])
+        self.assertEqual([line[40:] for line in beside], stored('examples', 'alternating', 'params').split('\n')[:-1])
+        self.assertEqual(stored('examples', 'alternating', 'user2.s'), stored('examples', 'alternating', 'user1.s').replace('r0, 1\n', 'r0, 2\n'))
+        self.assertEqual(command, ['./try FOLDER'])
+        row = re.search(r'`(turn \d+ cause 6 [^`]*)`', pages.page('KERNELS.md')).group(1)
+        self.assertIn(row + '\n', stored('examples', 'alternating', 'printed'))
+
+
 class WordsTable(unittest.TestCase):
     """ARCHITECTURE's table of words beside the sources."""
 

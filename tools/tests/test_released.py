@@ -135,6 +135,7 @@ class Run(Clones):
             status, text, said = self.run_it(tool, '--version')
             self.assertEqual((status, said), (0, ''))
             self.assertIn("(the released program isn't run: %s)" % why, text)
+            self.assertEqual('which will be built of these sources first' in text, tool == 'cvm')
         os.remove(os.path.join(self.bin, 'rt'))
         put(self.path('crates', name), SOURCES[name])
         put(self.path('crates/cvm/proofs/New.antt'), '')
