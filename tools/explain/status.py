@@ -33,6 +33,10 @@ class Way:
         """The name by which a file is known to the one who reads."""
         return name
 
+    def disk(self):
+        """What to do where the disk failed."""
+        return '%s.%s' % (remedy('94'), disk_fault())
+
 
 class FolderWay(Way):
     """The same for a folder that ./try runs: by options, and with the names of its sources."""
@@ -52,6 +56,9 @@ class FolderWay(Way):
 
     def shown(self, name):
         return self.names.get(name, name)
+
+    def disk(self):
+        return 'its file is among those for temporary use (the folder TMPDIR, or /tmp): make room there, and run it again.'
 
 
 def row_of(key):
@@ -389,7 +396,7 @@ def explain(status, command, rows, way=None):
     if status == 4:
         return ['cvm: ' + spent(command, way)] + gone_on(command)
     if status == 5:
-        return ['cvm: the disk failed: %s.%s' % (remedy('94'), disk_fault())] + gone_on(command)
+        return ['cvm: the disk failed: ' + way.disk()] + gone_on(command)
     if status == 6:
         return ['cvm: a file could not be had: %s.' % missing_file(command)]
     if status == 7:

@@ -115,6 +115,13 @@ class Status(unittest.TestCase):
             self.assertIn('put back the disk', self.said(status, ['resume', 'i', 's', '10', '10', 'f'], ''))
             self.assertNotIn('put back the disk', self.said(status, ['save', 'i', 's', '10', '10', 'f'], ''))
 
+    def test_a_disk_that_fails_is_looked_for_where_it_is(self):
+        """Of ./try in the folder for temporary files, of ./cvm in the current one."""
+        said = status.explain(5, ['boot', 'i', 's', '1', '1'], '', status.FolderWay(['boot'], {}))
+        self.assertIn('TMPDIR', ' '.join(said))
+        said = status.explain(5, ['boot', 'i', 's', '1', '1'], '')
+        self.assertIn('`cvm.disk` in the current folder', ' '.join(said).replace("'", '`'))
+
     def test_a_kernel_fault_names_its_turn(self):
         said = self.said(3, ['boot', 'i', 's', '10', '10'], 'turn 7 cause 6 data 0000000c user 1 fault Bounds')
         self.assertIn('fault Bounds in turn 7: index out of bounds', said)
