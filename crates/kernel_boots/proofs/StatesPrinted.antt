@@ -39,7 +39,7 @@ use Rattle.run_scripts.specs.Resumes.{IsBootBehind}
 use Rattle.run_scripts.specs.CommandEnds.{EndsRest}
 use Rattle.run_scripts.specs.Promises.{MachinesRest}
 use Rattle.run_scripts.specs.SessionRuns.{run_of}
-use Rattle.run_scripts.specs.Headline.{EndIsOver}
+use Rattle.run_scripts.specs.AskedRuns.{EndIsOver}
 use Rattle.kernel_boots.specs.Boots.{SessionStands, BootStands}
 use Rattle.kernel_boots.specs.Stands.{entries_under_way, TraceTextOf, TraceStandsAt, TracesStand, SavedStands, SaveStands, SavesStand, ResumesStand, StatesRest}
 use Rattle.kernel_boots.proofs.EightLines.{eight_of, turns_have_eight}

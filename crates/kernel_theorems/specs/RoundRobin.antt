@@ -78,7 +78,7 @@ pub record RunsRoundRobin (y : System) (users : ℕ) : Type 0 where
   pub users_are : length y.boot.users ≡ users
   pub room : 7 ≤ y.boot.params.stack
 
--- after the first turn: no dispatch has faulted; the global `turn_variable` is the current user's number; this is the number of lines taken so far, modulo the
+-- after the first turn: no dispatch has faulted; the global `turn` is the current user's number; this is the number of lines taken so far, modulo the
 -- number of users, plus 1; and so is each row's next user
 pub record IsFair (users : ℕ) (c : Cvm) : Type 0 where
   pub safe : IsSafe c.status

@@ -44,7 +44,7 @@ use Rattle.run_scripts.specs.Plan.{Plan, bad_words, refuses, puts, boots, saves,
 use Rattle.boot_run.specs.SaveRoom.{FILE_ROOM}
 use Rattle.run_scripts.specs.Ends.{IsByte, AreBytes}
 use Rattle.run_scripts.specs.Served.{files_of}
-use Rattle.run_scripts.specs.Headline.{IsOf, booted_so, saved_so, resumed_so}
+use Rattle.run_scripts.specs.AskedRuns.{IsOf, booted_so, saved_so, resumed_so}
 
 -- the system and the schedule that a plan runs
 abbrev system_in : Plan → Option ImageSystem

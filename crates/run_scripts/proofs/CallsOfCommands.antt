@@ -3,19 +3,21 @@ use Rattle.std.specs.Prelude.{Option, None}
 use Rattle.std.proofs.Common.{◌≡◌, ◌≢◌, ℕ, ◌+◌, suc, List, [], ◌∷◌, ◌++◌, length, refl, ap, ◌∙◌, subst, arith}
 use Rattle.run_scripts.specs.Command.{Command, IsCommand, save, resume}
 use Rattle.run_scripts.specs.Refusal.{too_long}
+use Rattle.run_scripts.specs.declared.exit_status.Status.{Status}
 use Rattle.run_scripts.specs.Plan.{Plan, bad_words, refuses}
 use Rattle.cvm_outside.specs.Numbering.{called, counted_times}
 use Rattle.cvm_outside.specs.Outside.{Outside, shelf_counts}
 use Rattle.cvm_outside.specs.Script.{Call, Printed, Read, Wrote, Got, Stored, Who, Performs, done as all_done, breaks, goes_on, disk_calls, shelf_calls}
 use Rattle.cvm_outside.specs.ScriptLaws.{MadeBy, ScriptsBlame, ScriptsCountFiles}
 use Rattle.cvm_outside.proofs.ScriptsFollow.{both}
-use Rattle.run_scripts.specs.Ends.{done, no_file, no_memory, GetsFor, all, up_to, IsNotGot, Wants}
+use Rattle.run_scripts.specs.Ends.{Ends, done, no_file, no_memory, GetsFor, all, up_to, IsNotGot, Wants}
 use Rattle.run_scripts.specs.Served.{files_of, gets, file_put}
-use Rattle.run_scripts.specs.Shapes.{PlansHaveShape, OthersStay, NothingIsLoaded, RefusalsKeepTheDisk, GetsComeFirst, ShelfIsCalled, were_got, ungot, wanting, gets_in, puts_in}
+use Rattle.run_scripts.specs.Shapes.{PlansHaveShape, OthersStay, NothingIsLoaded, RefusalsKeepTheDisk, GetsComeFirst, GotInOrder, ShelfIsCalled, were_got, ungot, wanting, gets_in, puts_in}
 use Rattle.run_scripts.proofs.ScriptCalls.{shape_of, files_stay, disk_stays, quiet_plan}
 use Rattle.run_scripts.proofs.StatusesCaused.{mid_disk, refusal_quiet}
 use Rattle.run_scripts.proofs.ResumeScripts.{got_keeps}
 use Rattle.run_scripts.proofs.GetsKeep.{wanted}
+use Rattle.run_scripts.proofs.FilesAmongWords.{files_among}
 use Rattle.run_scripts.proofs.OneCommand.{one_command}
 use Rattle.run_scripts.proofs.CommandOutcomes.{Outcome, is_none, is_refused, is_booted, is_saved, is_resumed, is_put, is_told, outcome}
 
@@ -75,16 +77,19 @@ refusals_keep_the_disk blame words old new status (done _ h) came =
 refusals_keep_the_disk blame words old new status (no_file d k g) came = disk_stays (gets (g.before ++ g.name ∷ [])) old new _ (gets_ask (g.before ++ g.name ∷ [])) g.performs
 refusals_keep_the_disk blame words old new status (no_memory d k w) came = (wanted _ old new w).disk
 
-pub gets_come_first : GetsComeFirst
-gets_come_first words c old new status is (done _ h) =
+gets_first : (words : List (List ℕ)) (c : Command) (old new : Outside) (status : Status) → IsCommand words c → Ends words old new status → GotInOrder c old new status
+gets_first words c old new status is (done _ h) =
     let s = shape_of words c h.plan h.mid h.script h.due is (outcome words old.shelf.file h.plan h.is_plan.comes) h.asks in
     were_got status h.due h.plan h.mid h.got h.script h.blamed (h.gets.0 c is) h.files (record { gets = s.gets; puts = s.puts }) h.performs h.status_is
-gets_come_first words c old new status is (no_file d k g) =
+gets_first words c old new status is (no_file d k g) =
     let e : files_of d ≡ files_of c = ap files_of (one_command words d c k is) in
     ungot (subst (λ (names : List (List ℕ)). IsNotGot names old new) e g)
-gets_come_first words c old new status is (no_memory d k w) =
+gets_first words c old new status is (no_memory d k w) =
     let e : files_of d ≡ files_of c = ap files_of (one_command words d c k is) in
     wanting (subst (λ (names : List (List ℕ)). Wants names old new) e w)
+
+pub gets_come_first : GetsComeFirst
+gets_come_first = record { of_words = files_among; first = gets_first }
 
 -- how often the shelf is called
 gets_call : (names : List (List ℕ)) → shelf_calls (gets names) ≡ length names

@@ -7,7 +7,7 @@ use Rattle.run_scripts.specs.Plan.{Plan}
 use Rattle.run_scripts.specs.declared.session.Session.{Session}
 use Rattle.cvm_outside.specs.Outside.{Outside}
 use Rattle.boot_run.specs.SavedRuns.{IsDisk}
-use Rattle.run_scripts.specs.Headline.{Asked}
+use Rattle.run_scripts.specs.AskedRuns.{Asked}
 
 -- of as many sectors
 abbrev pub with_disk : Outside → List (List ℕ) → Outside

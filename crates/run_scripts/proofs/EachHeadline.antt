@@ -9,7 +9,7 @@ use Rattle.boot_run.specs.RunScript.{run_script}
 use Rattle.run_scripts.specs.Ends.{done, no_file, no_memory, RunAsks, SomeRunAsks, session_load}
 use Rattle.run_scripts.specs.SessionRuns.{run_of}
 use Rattle.run_scripts.proofs.PromisesByRuns.{Headlines}
-use Rattle.run_scripts.specs.Headline.{whole_text}
+use Rattle.run_scripts.specs.AskedRuns.{whole_text}
 use Rattle.run_scripts.proofs.StatusesCaused.{mid_disk}
 use Rattle.run_scripts.proofs.PerformedScripts.{says_text, leaves_sectors}
 use Rattle.run_scripts.specs.Keys.{ScriptLaws}

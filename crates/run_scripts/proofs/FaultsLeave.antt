@@ -27,7 +27,7 @@ use Rattle.boot_run.specs.RunCalls.{end_by}
 use Rattle.run_scripts.specs.RunStatus.{run_status, status_of_end}
 use Rattle.run_scripts.specs.Ends.{WasDone, done, no_file, no_memory, IsNotGot, RunAsks, SomeRunAsks, SomeSaveAsks, session_load, answered}
 use Rattle.run_scripts.specs.Served.{files_of}
-use Rattle.run_scripts.specs.Headline.{Asked, ended_text, text_at, whole_text}
+use Rattle.run_scripts.specs.AskedRuns.{Asked, ended_text, text_at, whole_text}
 use Rattle.run_scripts.specs.Faults.{PrintedWithin, Stand, CalledBy, AfterSink, AfterBy, After, FaultsLeave, IsLeft, IsReported, UnsavedBy, SaveFaultsLeave}
 use Rattle.run_scripts.proofs.SectorsBehind.{load_calls_disk, stand_behind, sink_behind, disk_behind}
 use Rattle.run_scripts.proofs.BrokenScripts.{AllOf}

@@ -16,7 +16,7 @@ use Rattle.boot_run.specs.RunCalls.{end_by}
 use Rattle.run_scripts.specs.RunStatus.{run_status, status_of_end, power_status}
 use Rattle.run_scripts.specs.Ends.{Wants, PlanAsks, session_load, SessionAsks, SomeRunAsks, SomeSaveAsks, no_user, small, over_told, over_untold, as_boot, is_saved, answered, done, no_memory, behind, within, wants}
 use Rattle.run_scripts.specs.Served.{gets}
-use Rattle.run_scripts.specs.Headline.{Untouched, MemoryKeeps}
+use Rattle.run_scripts.specs.AskedRuns.{Untouched, MemoryKeeps}
 
 -- gets that were made leave all but the shelf's count of bytes
 pub gets_keep : (names : List (List ℕ)) (old new : Outside) → Performs (gets names) old new None → Untouched old new

@@ -12,7 +12,7 @@ use Rattle.boot_turns.specs.Runs.{Run, steps_made, turns_at, cvm_at, lines_met}
 use Rattle.run_scripts.specs.Boot.{booted, sectors_needed}
 use Rattle.run_scripts.specs.SessionRuns.{pages_loaded, run_of}
 use Rattle.run_scripts.specs.Ends.{session_load}
-use Rattle.run_scripts.specs.Headline.{Asked}
+use Rattle.run_scripts.specs.AskedRuns.{Asked}
 use Rattle.run_scripts.specs.Keys.{EndsAreOver, LawsOfRuns}
 use Rattle.run_scripts.proofs.PromisesByRuns.{PastsAgree, ScriptsTellTheText, ScriptsStoreTheSectors, LoadsStoreTheStart, SectorsBehindStay}
 use Rattle.boot_run.proofs.AbstractRuns.{turns_up_to}

@@ -18,6 +18,7 @@ pub mod KeysOfEachRun
 pub mod OneCommand
 pub mod CommandOutcomes
 pub mod ScriptCalls
+pub mod FilesAmongWords
 pub mod CallsOfCommands
 pub mod StatusesCaused
 pub mod NothingElseRefused

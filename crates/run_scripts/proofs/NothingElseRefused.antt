@@ -19,7 +19,7 @@ use Rattle.boot_run.specs.Closing.{says}
 use Rattle.run_scripts.specs.RunStatus.{IsRunStatus}
 use Rattle.run_scripts.specs.Ends.{WasDone, done, no_file, no_memory, GetsFor, all, up_to, IsNotGot, behind, within, wants, PlanAsks, SessionAsks, no_user, small, over_told, over_untold, answered}
 use Rattle.run_scripts.specs.Served.{files_of, gets, NoneFailed, ServesWords, ShelfServes, AreSurelyGiven}
-use Rattle.run_scripts.specs.Headline.{Untouched, IsOf, booted_so, saved_so, resumed_so}
+use Rattle.run_scripts.specs.AskedRuns.{Untouched, IsOf, booted_so, saved_so, resumed_so}
 use Rattle.run_scripts.specs.Shapes.{gets_in, puts_in, NamedBy}
 use Rattle.run_scripts.specs.Causes.{FilesAreRefused, HasNoUser, MissingUsersAreRefused, SmallDisksAreRefused, LongFilesAreRefused, RefusedWith, RunsEnd, IsRun, WorkCompletes, IsWork, WorkLeaves, with_text}
 use Rattle.run_scripts.proofs.ScriptCalls.{shape_of}

@@ -38,7 +38,7 @@ use Rattle.run_scripts.specs.Resumes.{IsHonestResume, IsSavedRun, IsBootBehind}
 use Rattle.run_scripts.specs.RunStatus.{run_status, status_of_end}
 use Rattle.run_scripts.specs.Saves.{SaveHolds, as_boot, is_saved, IsHonestSave}
 use Rattle.run_scripts.specs.SessionRuns.{run_of}
-use Rattle.run_scripts.specs.Headline.{Asked, saved_so, resumed_so, EndIsOver, text_at, whole_text}
+use Rattle.run_scripts.specs.AskedRuns.{Asked, saved_so, resumed_so, EndIsOver, text_at, whole_text}
 use Rattle.run_scripts.proofs.PromisesByRuns.{ItGoesOn, IsSaved, IsUnsaved, SavedSo}
 use Rattle.run_scripts.specs.Keys.{LawsOfRuns, ScriptLaws}
 use Rattle.run_scripts.specs.Served.{NoneFailed, ShelfServes, AreSurelyGiven}

@@ -21,7 +21,7 @@ use Rattle.run_scripts.specs.SessionRuns.{run_of}
 use Rattle.run_scripts.specs.RunStatus.{run_status}
 use Rattle.run_scripts.specs.Ends.{Ends}
 use Rattle.run_scripts.specs.Served.{NoneFailed}
-use Rattle.run_scripts.specs.Headline.{whole_text, Asked, EndIsOver, text_at}
+use Rattle.run_scripts.specs.AskedRuns.{whole_text, Asked, EndIsOver, text_at}
 use Rattle.cvm_model.specs.Kernel.{MeaningLaws}
 use Rattle.cvm_outside.specs.Script.{spoken, sectors_after}
 use Rattle.boot_run.specs.RunScript.{run_script, saved_words, saved_row, saved_bytes}

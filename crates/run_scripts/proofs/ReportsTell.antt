@@ -22,7 +22,7 @@ use Rattle.boot_turns.specs.StepScript.{page_of, steps_script}
 use Rattle.boot_run.specs.RunEnds.{SeesUser}
 use Rattle.boot_run.specs.Closing.{opening_script, page_report_script, user_report_script, boot_report, last_steps, trace_report, report_by, closing_script, says}
 use Rattle.boot_run.specs.RunScript.{rest_script, run_script}
-use Rattle.run_scripts.specs.Headline.{text_by, text_at, ended_text, whole_text}
+use Rattle.run_scripts.specs.AskedRuns.{text_by, text_at, ended_text, whole_text}
 use Rattle.run_scripts.proofs.RowsAlongRuns.{Known, first_is}
 use Rattle.run_scripts.proofs.ScriptsTell.{Tells, tells_none, tells_both, tells_scripts, says_tells, silent, quiet_reads, steps_tell, opening_tells}
 

@@ -29,7 +29,7 @@ use Rattle.run_scripts.specs.Plan.{resumes, boot_of_image}
 use Rattle.run_scripts.specs.RunStatus.{run_status}
 use Rattle.run_scripts.specs.SessionRuns.{run_of}
 use Rattle.run_scripts.specs.Faults.{Stand, PrintedBehind, BeginsBehind, AfterRest, in_step, in_report, AfterResume, ResumeFaultsLeave}
-use Rattle.run_scripts.specs.Headline.{Asked, ended_text, text_at, whole_text}
+use Rattle.run_scripts.specs.AskedRuns.{Asked, ended_text, text_at, whole_text}
 use Rattle.run_scripts.specs.Keys.{ScriptLaws}
 use Rattle.run_scripts.specs.Saving.{GoesOnAsBoot}
 use Rattle.run_scripts.proofs.BrokenScripts.{Broken, in_first, in_second, part, within, not_none, blames}

@@ -12,7 +12,7 @@ use Rattle.boot_turns.specs.Runs.{Run, Past}
 use Rattle.boot_run.specs.RunScript.{rest_script}
 use Rattle.run_scripts.specs.RunStatus.{run_status}
 use Rattle.run_scripts.specs.Ends.{GetsFor, all, up_to, WasDone, SavedRun, Joins, answered, done, no_file, no_memory}
-use Rattle.run_scripts.specs.Headline.{Asked, Untouched}
+use Rattle.run_scripts.specs.AskedRuns.{Asked, Untouched}
 use Rattle.run_scripts.specs.Saving.{ResumesJoin}
 use Rattle.run_scripts.proofs.GetsKeep.{gets_keep}
 

@@ -33,7 +33,7 @@ use Rattle.boot_turns.specs.TurnEnds.{first_user_machine}
 use Rattle.boot_run.specs.RunEnds.{SeesUser}
 use Rattle.boot_run.specs.Closing.{opening_script, user_report_script, boot_report, last_steps, trace_report, report_by, closing_script, says}
 use Rattle.boot_run.specs.RunScript.{rest_script, run_script}
-use Rattle.run_scripts.specs.Headline.{text_by, text_at, ended_text, whole_text}
+use Rattle.run_scripts.specs.AskedRuns.{text_by, text_at, ended_text, whole_text}
 use Rattle.run_scripts.specs.Faults.{HasPrinted, PrintedWithin, Stand, closed_by, CalledBy, up_to_step, up_to_row, AfterDisk, in_load, in_transfer, in_rows, in_report, EndsTurn, AfterSink}
 use Rattle.run_scripts.specs.Faults as fault
 use Rattle.run_scripts.proofs.BrokenScripts.{AllOf, Broken, in_first, in_second, part, Within, within, not_none, blames, all_if, sink_stays, IsLoud, loud_both, loud_scripts, loud_disk, silent_stays}

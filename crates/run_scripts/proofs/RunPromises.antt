@@ -29,7 +29,7 @@ use Rattle.run_scripts.specs.Ends.{Ends, WasDone, PlanFinds, done, no_file, no_m
 use Rattle.run_scripts.specs.Plan.{Plan, boots, PlanComesTo, AllTold}
 use Rattle.run_scripts.specs.RunStatus.{run_status, status_of_end}
 use Rattle.run_scripts.specs.SessionRuns.{run_of}
-use Rattle.run_scripts.specs.Headline.{Asked, booted_so, EndIsOver, text_by, ended_text, whole_text}
+use Rattle.run_scripts.specs.AskedRuns.{Asked, booted_so, EndIsOver, text_by, ended_text, whole_text}
 use Rattle.run_scripts.proofs.PromisesByRuns.{Headline, Isolated, Sectors}
 use Rattle.run_scripts.specs.Served.{NoneFailed, ShelfServes, AreSurelyGiven}
 use Rattle.run_scripts.specs.Promises.{HeadlinesHold, RunsAreComplete, TracesAreIsolated}

@@ -12,7 +12,7 @@ use Rattle.boot_turns.specs.Runs.{Run, Past, IsPast, state_at, steps_made, has_e
 use Rattle.boot_turns.specs.StepScript.{steps_script}
 use Rattle.boot_run.specs.Closing.{opening_script, closing_script}
 use Rattle.boot_run.specs.RunScript.{saved_row, saved_bytes, leaving_script, save_script}
-use Rattle.run_scripts.specs.Headline.{text_at}
+use Rattle.run_scripts.specs.AskedRuns.{text_at}
 use Rattle.run_scripts.specs.Shapes.{gets_in, puts_in}
 use Rattle.run_scripts.specs.Faults.{HasPrinted, PrintedWithin, Stand, AfterDisk, AfterSink, CalledBy, up_to_step, IsLeft, IsReported}
 use Rattle.run_scripts.proofs.BrokenScripts.{AllOf, Broken, in_first, in_second, both_done, part, nothing_blames, not_none}

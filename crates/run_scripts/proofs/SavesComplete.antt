@@ -15,7 +15,7 @@ use Rattle.boot_turns.specs.Runs.{Run}
 use Rattle.run_scripts.specs.Boot.{sectors_needed}
 use Rattle.run_scripts.specs.SessionRuns.{run_of}
 use Rattle.run_scripts.specs.Ends.{done, no_file, no_memory, SessionAsks, no_user, small, over_told, over_untold, RunAsks, SomeSaveAsks, session_load}
-use Rattle.run_scripts.specs.Headline.{Asked}
+use Rattle.run_scripts.specs.AskedRuns.{Asked}
 use Rattle.run_scripts.proofs.PromisesByRuns.{SavesComplete}
 use Rattle.run_scripts.proofs.StatusesCaused.{mid_disk}
 use Rattle.run_scripts.proofs.RunsComplete.{run_done}

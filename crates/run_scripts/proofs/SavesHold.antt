@@ -18,7 +18,7 @@ use Rattle.boot_run.specs.Closing.{opening_script, closing_script}
 use Rattle.run_scripts.specs.SessionRuns.{run_of, pages_loaded}
 use Rattle.boot_run.specs.RunScript.{run_script, saved_row, saved_bytes, leaving_script, save_script}
 use Rattle.run_scripts.specs.Ends.{done, no_file, no_memory, RunAsks, SomeSaveAsks, session_load}
-use Rattle.run_scripts.specs.Headline.{Asked, text_at, ended_text, whole_text}
+use Rattle.run_scripts.specs.AskedRuns.{Asked, text_at, ended_text, whole_text}
 use Rattle.run_scripts.specs.Faults.{IsLeft}
 use Rattle.run_scripts.proofs.PromisesByRuns.{IsSaved, IsUnsaved, SavesHold}
 use Rattle.run_scripts.proofs.BrokenScripts.{both_done}

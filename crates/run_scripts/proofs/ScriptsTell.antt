@@ -26,7 +26,7 @@ use Rattle.sector_disk.specs.Ports.{transfer_script}
 use Rattle.boot_turns.specs.TurnEnds.{first_user_machine}
 use Rattle.boot_run.specs.RunEnds.{SeesUser}
 use Rattle.boot_run.specs.Closing.{opening_script, says}
-use Rattle.run_scripts.specs.Headline.{text_by, text_at}
+use Rattle.run_scripts.specs.AskedRuns.{text_by, text_at}
 use Rattle.run_scripts.proofs.RowsAlongRuns.{Known, rows_grow, journal_grows, journal_starts, first_is}
 
 -- SCRIPTS that tell

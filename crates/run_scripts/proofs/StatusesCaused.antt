@@ -23,7 +23,7 @@ use Rattle.boot_run.specs.Closing.{says}
 use Rattle.boot_run.specs.RunCalls.{end_by}
 use Rattle.run_scripts.specs.RunStatus.{IsRunStatus, status_of_end, power_status}
 use Rattle.run_scripts.specs.Ends.{WasDone, done, no_file, no_memory, GetsFor, all, up_to, IsNotGot, Wants, behind, within, wants, PlanAsks, SessionAsks, no_user, small, over_told, over_untold, SomeSaveAsks, as_boot, is_saved, session_load, answered}
-use Rattle.run_scripts.specs.Headline.{Untouched}
+use Rattle.run_scripts.specs.AskedRuns.{Untouched}
 use Rattle.run_scripts.specs.Served.{files_of, gets}
 use Rattle.run_scripts.specs.Causes.{FaultRose, NeedsMore, RunsOver, IsRun, IsWork, CausedBy, StatusesAreCaused, RefusedWith, WordsAreRefused, with_text}
 use Rattle.run_scripts.specs.Shapes.{IsRefusal}

@@ -20,7 +20,7 @@ use Rattle.boot_run.specs.RunEnds.{SeesUser}
 use Rattle.run_scripts.specs.RunStatus.{IsRunStatus}
 use Rattle.run_scripts.specs.Ends.{Ends}
 use Rattle.run_scripts.specs.Served.{files_of, ServesWords, NoneFailed}
-use Rattle.run_scripts.specs.Headline.{IsOf}
+use Rattle.run_scripts.specs.AskedRuns.{IsOf}
 
 -- this object counted one fault more, or none did where it is none; and the counts of all others are as before
 abbrev pub FaultRose : Option Who → (old new : Outside) → Type 0

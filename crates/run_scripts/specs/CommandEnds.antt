@@ -15,7 +15,7 @@ use Rattle.run_scripts.specs.Saves.{IsHonestSave}
 use Rattle.run_scripts.specs.Resumes.{IsHonestResume, IsSavedRun, IsBootBehind}
 use Rattle.run_scripts.specs.Isolation.{IsolatedTrace}
 use Rattle.run_scripts.specs.SessionRuns.{run_of}
-use Rattle.run_scripts.specs.Headline.{EndIsOver}
+use Rattle.run_scripts.specs.AskedRuns.{EndIsOver}
 
 -- THE HEADLINE of each boot and each trace with these words
 abbrev pub Headlines : List (List ℕ) → Status → (old new : Outside) → Type 0

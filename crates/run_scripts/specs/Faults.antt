@@ -28,7 +28,7 @@ use Rattle.boot_run.specs.Closing.{opening_script, closing_script}
 use Rattle.boot_run.specs.RunScript.{saved_row, saved_bytes}
 use Rattle.run_scripts.specs.SessionRuns.{run_of}
 use Rattle.run_scripts.specs.Ends.{Ends, IsNotGot, SavedRun, session_load}
-use Rattle.run_scripts.specs.Headline.{text_at, whole_text, Asked}
+use Rattle.run_scripts.specs.AskedRuns.{text_at, whole_text, Asked}
 
 -- what was printed is this text; or the first of a whole one, with at least this part of it
 abbrev pub HasPrinted : (old new : Outside) → (text : List ℕ) → Type 0

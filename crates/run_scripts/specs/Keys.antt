@@ -19,7 +19,7 @@ use Rattle.boot_turns.specs.Runs.{Run}
 use Rattle.run_scripts.specs.Boot.{booted, sectors_needed, steps_before}
 use Rattle.run_scripts.specs.SessionRuns.{run_of}
 use Rattle.run_scripts.specs.Ends.{session_load}
-use Rattle.run_scripts.specs.Headline.{Asked, EndIsOver}
+use Rattle.run_scripts.specs.AskedRuns.{Asked, EndIsOver}
 
 -- what is so of each run that words ask for
 abbrev pub OfRuns : (Run → (load : List Call) → (before : List (List ℕ)) → (held : ℕ) → Type 0) → Type 0

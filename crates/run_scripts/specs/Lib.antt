@@ -14,7 +14,7 @@ pub mod CommandEnds
 pub mod Suffices
 pub mod SessionRuns
 pub mod Ends
-pub mod Headline
+pub mod AskedRuns
 pub mod Keys
 pub mod Causes
 pub mod Shapes

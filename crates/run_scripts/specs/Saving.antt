@@ -15,7 +15,7 @@ use Rattle.boot_turns.specs.declared.answers.View.TheVariants.{Boot}
 use Rattle.boot_run.specs.RunScript.{rest_script, run_script, saved_bytes, save_script, put_script}
 use Rattle.run_scripts.specs.RunStatus.{run_status}
 use Rattle.run_scripts.specs.Ends.{Ends, SavedRun, answered}
-use Rattle.run_scripts.specs.Headline.{Asked}
+use Rattle.run_scripts.specs.AskedRuns.{Asked}
 
 -- WHAT A SAVE DOES before it puts the file, and what a resume of it does, are what the boot does: so it is of scripts alone
 pub record AreJoined (name : List ℕ) (r q : Run) (load : List Call) (p o : Past) : Type 0 where

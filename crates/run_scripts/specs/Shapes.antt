@@ -74,7 +74,7 @@ CameToNothing (no_memory c is w) = ⊤
 abbrev pub RefusalsKeepTheDisk : Type 0
 RefusalsKeepTheDisk = (words : List (List ℕ)) (old new : Outside) (status : Status) (e : Ends words old new status) → CameToNothing e → new.disk ≡ old.disk
 
--- THE GETS come first, in the order of the words: all files were got, or those up to one that is too long, and behind them calls are made of which none is
+-- THE GETS come first: all files were got, or those up to one that is too long, and behind them calls are made of which none is
 -- a get; or a get failed, and no call was made behind it; or memory was wanted, with some of the gets made and nothing else
 pub data GotInOrder (c : Command) (old new : Outside) : Status → Type 0 where
   were_got : (status due : Status) (plan : Plan) (mid : Outside) (got script : List Call) (blamed : Option Who) →
@@ -83,9 +83,17 @@ pub data GotInOrder (c : Command) (old new : Outside) : Status → Type 0 where
   ungot : IsNotGot (files_of c) old new → GotInOrder c old new Shelf
   wanting : Wants (files_of c) old new → GotInOrder c old new Memory
 
-abbrev pub GetsComeFirst : Type 0
-GetsComeFirst = (words : List (List ℕ)) (c : Command) (old new : Outside) (status : Status) → IsCommand words c → Ends words old new status →
-    GotInOrder c old new status
+-- these are some of those words, in the order in which they stand there
+pub data StandAmong : (names words : List (List ℕ)) → Type 0 where
+  no_name : (words : List (List ℕ)) → StandAmong [] words
+  named : (name : List ℕ) (names words : List (List ℕ)) → StandAmong names words → StandAmong (name ∷ names) (name ∷ words)
+  passed : (word : List ℕ) (names words : List (List ℕ)) → StandAmong names words → StandAmong names (word ∷ words)
+
+-- A law: a command gets files that its words name, in the order of the words, and before all else
+pub record GetsComeFirst : Type 0 where
+  pub of_words : (words : List (List ℕ)) (c : Command) → IsCommand words c → StandAmong (files_of c) words
+  pub first : (words : List (List ℕ)) (c : Command) (old new : Outside) (status : Status) → IsCommand words c → Ends words old new status →
+      GotInOrder c old new status
 
 -- counts after so many more calls, by both of them
 pub record CountedMore (n : ℕ) (before now : Tally) : Type 0 where

@@ -1,5 +1,5 @@
 // Laws of how commands end, each the contract of a function that does nothing.
-ghost use Rattle.run_scripts.specs.Headline.{MemoryKeeps};
+ghost use Rattle.run_scripts.specs.AskedRuns.{MemoryKeeps};
 ghost use Rattle.run_scripts.specs.Keys.{RunsStart, EndsAreOver, ScriptLaws};
 ghost use Rattle.run_scripts.specs.Causes.{StatusesAreCaused, WordsAreRefused, FilesAreRefused, MissingUsersAreRefused, SmallDisksAreRefused};
 ghost use Rattle.run_scripts.specs.Causes.{LongFilesAreRefused, StepsAreSpent, RunsEnd, WorkCompletes};
