@@ -16,12 +16,14 @@
 //   place of each `@`; and prints the texts with their status, each with how often it came in succession;
 // - `journal WORD ..` runs it, a trace, and prints its rows but those that count steps, up to the end of the run;
 // - `sure WORD ..` runs it over copies of the files that its words name, a sink and a disk where no call fails, and prints the status alone;
-// - `turns boot IMAGE SCHEDULE TURNS STEPS` loads the system of these words, asks it for its next turn as often as TURNS says, and prints each
-//   answer with how often it came in succession, how the run ended, its steps, and what was printed of it;
+// - `turns boot IMAGE SCHEDULE TURNS STEPS`, or `turns rom ..`, loads the system of these words, asks it for its next turn as often as TURNS
+//   says, and prints each answer with how often it came in succession, how the run ended, its steps, and what was printed of it;
 // - `put TEXT` puts these bytes into the sink, and prints whether it took them all and what it took;
 // - `show NAME` gets a file and prints its bytes, `part NAME AT COUNT` so many of its bytes from a place on, `object NAME` reads it as an
 //   object and prints its source and how many words it has, and `sector N` prints the words of a sector that aren't 0.
 #![tactic(auto)]
+
+ghost use Rattle.std.specs.Prelude.{◌≤◌, length, IfOk, IfSome};
 
 mod altered;
 mod each;
@@ -31,12 +33,14 @@ mod stepping;
 mod sure;
 
 use altered::{Alteration, Altered};
+use boot_rom::rom_words;
 use boot_run::{Run, View};
 use case_file::{Case, cases};
 use cvm_outside::{MemSectors, MemShelf, MemSink, Sectors, Shelf, Sink};
-use cvm_shell::{plan, read_boot, run};
+use cvm_shell::{StartPoint, plan, read_boot, run};
 use each::run_each;
 use journal::put_journal;
+use layer_contract::Boot;
 use object_file::read;
 use partial::Partial;
 use std::alloc::{AllocError, Global};
@@ -233,7 +237,21 @@ fn run_sure(
     writeln!(out, "status {}", status.code())
 }
 
-// Loads the system of a boot, and asks for its turns one by one.
+// The words of the boot ROM that loads a system, if one can.
+fn rom_of(alloc: Global, system: &Boot) -> Result<Option<Vec<u32>>, AllocError>
+    ensures { IfOk result (λ found. IfSome found (λ rom. length rom.items ≤ 1024)) }
+{
+    let users = system.users.len();
+    let pages = system.params.pages;
+    let words = system.words.len();
+    let sectors = words / 1024 + (words % 1024 != 0) as usize;
+    if users > 64 || pages == 0 || pages > 1024 || sectors == 0 || sectors > 4096 {
+        return Ok(None);
+    }
+    Ok(Some(rom_words(alloc, users as u32, pages, sectors as u32)?))
+}
+
+// Loads the system of a boot, or of one from a boot ROM, and asks for its turns one by one.
 fn run_turns(
     alloc: Global,
     world: &mut World,
@@ -247,14 +265,17 @@ fn run_turns(
     let Ok(ready) = plan(alloc, &boot, &mut world.shelf) else {
         return out.push_str("(not accepted)\n");
     };
-    let loaded = Run::load(
-        alloc,
-        ready.layer,
-        ready.boot,
-        ready.schedule,
-        View::Boot,
-        &mut world.disk,
-    );
+    let disk = &mut world.disk;
+    let (layer, system, schedule) = (ready.layer, ready.boot, ready.schedule);
+    let loaded = match boot.start {
+        StartPoint::Loaded => Run::load(alloc, layer, system, schedule, View::Boot, disk),
+        StartPoint::Rom => {
+            let Some(rom) = rom_of(alloc, &system)? else {
+                return out.push_str("(no ROM)\n");
+            };
+            Run::load_rom(alloc, layer, system, schedule, View::Boot, &rom, disk)
+        }
+    };
     let Ok(mut loaded) = loaded else {
         return out.push_str("(not loaded)\n");
     };
